@@ -1,0 +1,152 @@
+-- Numbers in a list of bytes, the lowest byte first, and runs of bytes put into a list. A list reads as 0 past its end, and nothing is put there.
+use mathlib.Core.Path.{_≡_, refl, sym, ap, _∙_}
+use mathlib.Core.List.{List, [], _∷_, _++_}
+use mathlib.Core.Logic.{⊎-elim}
+use Prim.Native.Nat.{ℕ, zero, suc, _+_, _-_, _*_, _/_, _%_, _^_, _≤_, _<_}
+use native.Mathlib.Omega.{arith}
+use native.Mathlib.Nat.{zero-add, add-zero, suc-add, add-suc, pow-suc, pow-zero, div-one, div-div-eq-div-mul, mul-comm, le-of-lt}
+use native.Mathlib.Numerals.{add-one}
+use lib.ListN.{length, getD, set, take, drop, replicate, length-set, length-drop, length-take, length-replicate, getD-replicate, drop-of-length-le, List·getD-eq-default}
+use lib.Seq.{sets, length-sets, sets-eq, set-out, getD-set-other, getD-set-same, set-comm, drop-cons, getD-take, getD-drop, ext-getD}
+use Rattle.util.specs.Pick.{le-or-lt}
+
+-- the number whose n bytes stand in l from i
+unfoldable pub get : ℕ → List ℕ → ℕ → ℕ
+get zero l i = 0
+get (suc n) l i = getD l i 0 + 256 * get n l (suc i)
+
+-- the n low bytes of v
+unfoldable pub le : ℕ → ℕ → List ℕ
+le zero v = []
+le (suc n) v = v % 256 ∷ le n (v / 256)
+
+-- l with vs from i on; what would lie past l's end is left out
+unfoldable pub splice : List ℕ → ℕ → List ℕ → List ℕ
+splice l i vs = sets l i vs
+
+-- the n bytes of l from i, as far as there are any
+unfoldable pub part : List ℕ → ℕ → ℕ → List ℕ
+part l i n = take n (drop i l)
+
+-- each element is a byte, as in every slice of bytes
+pub IsBytes : List ℕ → Type 0
+IsBytes l = (i : ℕ) → getD l i 0 < 256
+
+-- ---- splice: the length is kept; what stands before and after is as it was; what was put is there
+pub length-splice : (l : List ℕ) (i : ℕ) (vs : List ℕ) → length (splice l i vs) ≡ length l
+unfolding splice
+length-splice l i vs = length-sets l i vs
+
+pub splice-below : (l : List ℕ) (i : ℕ) (vs : List ℕ) (k : ℕ) → k < i → getD (splice l i vs) k 0 ≡ getD l k 0
+unfolding splice
+splice-below l i [] k h = refl
+splice-below l i (a ∷ vs) k h = splice-below (set l i a) (suc i) vs k (omega arith) ∙ getD-set-other l i k a 0 (λ e. omega arith)
+
+pub splice-above : (l : List ℕ) (i : ℕ) (vs : List ℕ) (k : ℕ) → i + length vs ≤ k → getD (splice l i vs) k 0 ≡ getD l k 0
+unfolding splice
+splice-above l i [] k h = refl
+splice-above l i (a ∷ vs) k h = splice-above (set l i a) (suc i) vs k (omega arith) ∙ getD-set-other l i k a 0 (λ e. omega arith)
+
+pub splice-in : (l : List ℕ) (i : ℕ) (vs : List ℕ) (j : ℕ) → j < length vs → i + j < length l → getD (splice l i vs) (i + j) 0 ≡ getD vs j 0
+unfolding splice
+splice-in l i [] j h k = omega arith
+splice-in l i (a ∷ vs) zero h k =
+    let e : i + 0 ≡ i = omega arith in
+    rw e (splice-below (set l i a) (suc i) vs i (omega arith) ∙ getD-set-same l i a 0 (omega arith))
+splice-in l i (a ∷ vs) (suc j) h k =
+    let e : i + suc j ≡ suc i + j = omega arith in
+    rw e (splice-in (set l i a) (suc i) vs j (omega arith) (rw length-set (omega arith)))
+
+-- past the end nothing is put
+pub splice-past : (l : List ℕ) (i : ℕ) (vs : List ℕ) → length l ≤ i → splice l i vs ≡ l
+unfolding splice
+splice-past l i [] h = refl
+splice-past l i (a ∷ vs) h = rw (set-out l i a h) (splice-past l (suc i) vs (omega arith))
+
+-- a run right after another is one run; two runs that are apart may be put in either order
+pub splice-next : (l : List ℕ) (i : ℕ) (xs ys : List ℕ) (j : ℕ) → j ≡ i + length xs → splice (splice l i xs) j ys ≡ splice l i (xs ++ ys)
+unfolding splice
+splice-next l i [] ys j e = let f : j ≡ i = omega arith in rw f
+splice-next l i (a ∷ xs) ys j e = splice-next (set l i a) (suc i) xs ys j (omega arith)
+
+set-splice : (l : List ℕ) (i : ℕ) (a : ℕ) (j : ℕ) (ys : List ℕ) → i < j → splice (set l i a) j ys ≡ set (splice l j ys) i a
+unfolding splice
+set-splice l i a j [] h = refl
+set-splice l i a j (y ∷ ys) h = rw (set-comm l i j a y (λ e. omega arith)) (set-splice (set l j y) i a (suc j) ys (omega arith))
+
+pub splice-apart : (l : List ℕ) (i : ℕ) (xs : List ℕ) (j : ℕ) (ys : List ℕ) → i + length xs ≤ j → splice (splice l i xs) j ys ≡ splice (splice l j ys) i xs
+unfolding splice
+splice-apart l i [] j ys h = refl
+splice-apart l i (a ∷ xs) j ys h =
+    splice-apart (set l i a) (suc i) xs j ys (omega arith) ∙ ap (λ (m : List ℕ). splice m (suc i) xs) (set-splice l i a j ys (omega arith))
+
+-- a run that fits at the front: the run, and what stood after it
+pub splice-front : (l vs : List ℕ) → length vs ≤ length l → splice l 0 vs ≡ vs ++ drop (length vs) l
+unfolding splice
+splice-front l vs h = sets-eq vs l 0 (omega arith) ∙ rw zero-add
+
+-- ---- numbers: `get` looks at n places only, and reads back what `le` gives
+pub length-le : (n v : ℕ) → length (le n v) ≡ n
+unfolding le
+length-le zero v = refl
+length-le (suc n) v = ap suc (length-le n (v / 256))
+
+pub get-same : (n : ℕ) (l m : List ℕ) (i j : ℕ) → ((k : ℕ) → k < n → getD l (i + k) 0 ≡ getD m (j + k) 0) → get n l i ≡ get n m j
+unfolding get
+get-same zero l m i j h = refl
+get-same (suc n) l m i j h =
+    let e : getD l i 0 ≡ getD m j 0 = rw (add-zero, add-zero) at (h 0 (omega arith)) in
+    let r : get n l (suc i) ≡ get n m (suc j) =
+    get-same n l m (suc i) (suc j) (λ k p. rw (suc-add, suc-add, ← add-suc, ← add-suc) (h (suc k) (omega arith))) in
+    omega arith
+
+pub get-le : (n v : ℕ) → v < 256 ^ n → get n (le n v) 0 ≡ v
+unfolding get le
+get-le zero v h = omega arith
+get-le (suc n) v h =
+    let e : 256 ^ suc n ≡ 256 ^ n * 256 = pow-suc _ _ in
+    let tail : get n (v % 256 ∷ le n (v / 256)) 1 ≡ get n (le n (v / 256)) 0 =
+    get-same n (v % 256 ∷ le n (v / 256)) (le n (v / 256)) 1 0 (λ k p. rw suc-add) in
+    let r : get n (le n (v / 256)) 0 ≡ v / 256 = get-le n (v / 256) (omega arith) in
+    omega arith
+
+-- a number that was put is read back; one that stands apart from a run is as it was
+pub get-splice : (n v : ℕ) (l : List ℕ) (i : ℕ) → i + n ≤ length l → v < 256 ^ n → get n (splice l i (le n v)) i ≡ v
+get-splice n v l i f h =
+    get-same n (splice l i (le n v)) (le n v) i 0 (λ k p. splice-in l i (le n v) k (rw length-le p) (omega arith) ∙ rw zero-add) ∙ get-le n v h
+
+pub get-before : (n : ℕ) (l : List ℕ) (i : ℕ) (vs : List ℕ) (k : ℕ) → k + n ≤ i → get n (splice l i vs) k ≡ get n l k
+get-before n l i vs k h = get-same n (splice l i vs) l k k (λ j p. splice-below l i vs (k + j) (omega arith))
+
+pub get-after : (n : ℕ) (l : List ℕ) (i : ℕ) (vs : List ℕ) (k : ℕ) → i + length vs ≤ k → get n (splice l i vs) k ≡ get n l k
+get-after n l i vs k h = get-same n (splice l i vs) l k k (λ j p. splice-above l i vs (k + j) (omega arith))
+
+-- n bytes are below 256 ^ n
+pub get-below : (n : ℕ) (l : List ℕ) (i : ℕ) → IsBytes l → get n l i < 256 ^ n
+unfolding get IsBytes
+get-below zero l i b = rw pow-zero (omega arith)
+get-below (suc n) l i b =
+    let e : 256 ^ suc n ≡ 256 ^ n * 256 = pow-suc _ _ in
+    let r = get-below n l (suc i) b in
+    let a = b i in
+    omega arith
+
+-- ---- parts
+pub length-part : (l : List ℕ) (i n : ℕ) → i + n ≤ length l → length (part l i n) ≡ n
+unfolding part
+length-part l i n h = simp (length-take, length-drop) (omega arith)
+
+pub part-at : (l : List ℕ) (i n k : ℕ) → k < n → getD (part l i n) k 0 ≡ getD l (i + k) 0
+unfolding part
+part-at l i n k h = rw (getD-take, getD-drop)
+
+pub part-none : (l : List ℕ) (i : ℕ) → part l i 0 ≡ []
+unfolding part
+part-none l i = refl
+
+-- what was put is the part that stands there
+pub part-splice : (l : List ℕ) (i : ℕ) (vs : List ℕ) → i + length vs ≤ length l → part (splice l i vs) i (length vs) ≡ vs
+part-splice l i vs h =
+    let e : length (part (splice l i vs) i (length vs)) ≡ length vs = length-part (splice l i vs) i (length vs) (rw length-splice h) in
+    ext-getD 0 (part (splice l i vs) i (length vs)) vs e
+    (λ k p. let q : k < length vs = rw e at p in part-at (splice l i vs) i (length vs) k q ∙ splice-in l i vs k q (omega arith))

@@ -1,0 +1,92 @@
+-- Refusals by number. A code is 0 where nothing is refused, else the number of the first refusal that applies.
+use mathlib.Core.Path.{_≡_, refl}
+use Prim.Native.Nat.{ℕ, zero, suc}
+use Rattle.refusal.specs.declared.Answer.{Answer}
+use Rattle.refusal.specs.declared.Answer.the-variants.{Done, Refused}
+use Rattle.refusal.specs.declared.Number.{Number}
+use Rattle.refusal.specs.declared.Number.the-variants.{Value, Refusal}
+
+-- the answer for a code
+unfoldable pub doneOf : ℕ → Answer
+doneOf zero = Done
+doneOf (suc k) = Refused (suc k)
+
+-- the same for an operation that answers a number
+unfoldable pub numberOf : ℕ → ℕ → Number
+numberOf zero v = Value v
+numberOf (suc k) v = Refusal (suc k)
+
+-- what a lent buffer holds at exit: the new contents, or on a refusal what it held before
+unfoldable pub unlessRefused : {A : Type 0} → ℕ → A → A → A
+unlessRefused zero new old = new
+unlessRefused (suc k) new old = old
+
+-- the numbers (01, "The operations and what they turn down")
+abbrev pub STORAGE : ℕ
+STORAGE = 13
+
+abbrev pub NOT-MAPPED : ℕ
+NOT-MAPPED = 15
+
+abbrev pub NOT-ON-A-PAGE : ℕ
+NOT-ON-A-PAGE = 16
+
+abbrev pub NOT-WHOLE-PAGES : ℕ
+NOT-WHOLE-PAGES = 17
+
+abbrev pub TOO-LONG : ℕ
+TOO-LONG = 18
+
+-- What an operation says and leaves that writes one lent buffer, or two: `code` is the definition's, and on a refusal nothing has changed.
+pub record Leaves {A : Type 0} (code : ℕ) (old new at-exit : A) (r : Answer) : Type 0 where
+  pub says : r ≡ doneOf code
+  pub leaves : at-exit ≡ unlessRefused code new old
+
+pub record LeavesBoth {A B : Type 0} (code : ℕ) (old new at-exit : A) (old₂ new₂ at-exit₂ : B) (r : Answer) : Type 0 where
+  pub says : r ≡ doneOf code
+  pub leaves : at-exit ≡ unlessRefused code new old
+  pub leaves₂ : at-exit₂ ≡ unlessRefused code new₂ old₂
+
+-- ---- the two ways of an operation that checks first: nothing is refused and it has written, or it refuses and has not
+pub done-is : (k code : ℕ) → k ≡ code → k ≡ 0 → Done ≡ doneOf code
+unfolding doneOf
+done-is k code e z = rw (← e, z)
+
+pub refused-is : (k code : ℕ) → k ≡ code → (k ≡ 0 → ⊥) → Refused k ≡ doneOf code
+unfolding doneOf
+refused-is zero code e n = absurd (n refl)
+refused-is (suc k) code e n = rw (← e)
+
+pub value-is : (k code v x : ℕ) → k ≡ code → k ≡ 0 → x ≡ v → Value x ≡ numberOf code v
+unfolding numberOf
+value-is k code v x e z q = rw (← e, z, q)
+
+pub refusal-is : (k code v : ℕ) → k ≡ code → (k ≡ 0 → ⊥) → Refusal k ≡ numberOf code v
+unfolding numberOf
+refusal-is zero code v e n = absurd (n refl)
+refusal-is (suc k) code v e n = rw (← e)
+
+pub new-is : {A : Type 0} (k code : ℕ) (new old x : A) → k ≡ code → k ≡ 0 → x ≡ new → x ≡ unlessRefused code new old
+unfolding unlessRefused
+new-is k code new old x e z q = rw (← e, z, q)
+
+pub old-is : {A : Type 0} (k code : ℕ) (new old : A) → k ≡ code → (k ≡ 0 → ⊥) → old ≡ unlessRefused code new old
+unfolding unlessRefused
+old-is zero code new old e n = absurd (n refl)
+old-is (suc k) code new old e n = rw (← e)
+
+module _ {A : Type 0} (k code : ℕ) (old new x : A) where
+  pub leaves-done : k ≡ code → k ≡ 0 → x ≡ new → Leaves code old new x Done
+  leaves-done e z q = record { says = done-is k code e z; leaves = new-is k code new old x e z q }
+
+  pub leaves-refused : k ≡ code → (k ≡ 0 → ⊥) → Leaves code old new old (Refused k)
+  leaves-refused e n = record { says = refused-is k code e n; leaves = old-is k code new old e n }
+
+  module _ {B : Type 0} (old₂ new₂ x₂ : B) where
+    pub both-done : k ≡ code → k ≡ 0 → x ≡ new → x₂ ≡ new₂ → LeavesBoth code old new x old₂ new₂ x₂ Done
+    both-done e z q q₂ = record { says = done-is k code e z; leaves = new-is k code new old x e z q; leaves₂ = new-is k code new₂ old₂ x₂ e z q₂ }
+
+    pub both-refused : k ≡ code → (k ≡ 0 → ⊥) → LeavesBoth code old new old old₂ new₂ old₂ (Refused k)
+    both-refused e n = record { says = refused-is k code e n; leaves = old-is k code new old e n; leaves₂ = old-is k code new₂ old₂ e n }
+
+pub ruleset answers = (done-is, refused-is, value-is, refusal-is, leaves-done, leaves-refused, both-done, both-refused)
