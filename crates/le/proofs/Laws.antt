@@ -6,10 +6,10 @@ use Prim.Native.Nat.{ℕ, zero, suc, _+_, _-_, _*_, _/_, _%_, _^_, _≤_, _<_, m
 use native.Mathlib.Omega.{arith}
 use native.Mathlib.Nat.{zero-add, add-zero, pow-suc, pow-zero, div-one, div-div-eq-div-mul, not-suc-le-zero, mul-comm}
 use native.Mathlib.Numerals.{add-one, towards-suc}
-use lib.ListN.{length, getD, set, drop, replicate, length-set, length-replicate, drop-of-length-le, List·getD-eq-default}
-use lib.Seq.{drop-cons}
+use lib.ListN.{length, getD, set, take, drop, replicate, length-drop, length-set, length-replicate, drop-of-length-le, List·getD-eq-default}
+use lib.Seq.{drop-cons, take-all, take-nil}
 use Rattle.util.specs.Pick.{le-or-lt}
-use Rattle.le.specs.Le.{get, le, splice, splice-past, length-le}
+use Rattle.le.specs.Le.{get, le, part, splice, splice-past, length-le}
 
 -- ---- the readers: the sum that the code joins
 pub get2 : (l : List ℕ) (at : ℕ) → get 2 l at ≡ getD l at 0 + 256 * getD l (at + 1) 0
@@ -112,3 +112,30 @@ pub in-room : (len at n m i : ℕ) → m ≡ min n (len - at) → i < m → at +
 in-room len at n m i r h = omega arith
 
 pub ruleset putting = (put-none, zero-step, zero-end, copy-step, copy-end, le-step, le-end, le-rest, le-begin)
+
+-- ---- a part, within the list, up to its end, and past it
+module _ (s : List ℕ) (from n : ℕ) where
+  pub part-here : (to : ℕ) → to ≡ from + n → take (to - from) (drop from s) ≡ part s from n
+  unfolding part
+  part-here to e = let d : to - from ≡ n = omega arith in rw d
+
+  pub part-rest : length s - from ≤ n → take (length s - from) (drop from s) ≡ part s from n
+  unfolding part
+  part-rest h = take-all (length s - from) (drop from s) (simp length-drop (omega arith)) ∙ sym (take-all n (drop from s) (simp length-drop h))
+
+  pub part-past : length s ≤ from → [] ≡ part s from n
+  unfolding part
+  part-past h = rw (drop-of-length-le s h) (sym (take-nil n))
+
+pub ruleset parts = (part-here, part-rest, part-past)
+
+-- ---- one byte
+module _ (l : List ℕ) (at v : ℕ) where
+  pub byte-in : set l at v ≡ splice l at (v ∷ [])
+  unfolding splice
+  byte-in = refl
+
+  pub byte-past : length l ≤ at → l ≡ splice l at (v ∷ [])
+  byte-past h = sym (splice-past l at (v ∷ []) h)
+
+pub ruleset bytes-put = (byte-in, byte-past)

@@ -37,6 +37,9 @@ pub length-splice : (l : List ℕ) (i : ℕ) (vs : List ℕ) → length (splice 
 unfolding splice
 length-splice l i vs = length-sets l i vs
 
+pub splice-long : (l b : List ℕ) (i : ℕ) (vs : List ℕ) → b ≡ splice l i vs → length b ≡ length l
+splice-long l b i vs e = rw e (length-splice l i vs)
+
 pub splice-below : (l : List ℕ) (i : ℕ) (vs : List ℕ) (k : ℕ) → k < i → getD (splice l i vs) k 0 ≡ getD l k 0
 unfolding splice
 splice-below l i [] k h = refl

@@ -2,7 +2,8 @@
 ghost use mathlib.Core.Path.{_≡_};
 ghost use Prim.Native.Nat.{_+_, _-_, _*_, min};
 ghost use lib.ListN.{getD, replicate};
-ghost use Rattle.le.specs.Le.{get, le, splice};
+ghost use mathlib.Core.List.{[], _∷_};
+ghost use Rattle.le.specs.Le.{get, le, part, splice};
 
 pub fn byte_at(s: &[u8], at: usize) -> u8
     ensures { λ r. ⌜ r ≡ getD (now (s .entry)) at 0 ⌝ }
@@ -77,6 +78,23 @@ pub fn u64_at(s: &[u8], at: usize) -> u64
     }
 }
 
+// The `n` bytes from `from`, as far as there are any: that part of the lent bytes.
+pub fn part(s: &[u8], from: usize, n: usize) -> &[u8]
+    ensures { λ r. ⌜ now r ≡ part (now (s .entry)) from n ⌝ }
+{
+    let len = s.len();
+    if from < len {
+        if n < len - from {
+            let to = from + n;
+            &s[from..to]
+        } else {
+            &s[from..]
+        }
+    } else {
+        &s[..0]
+    }
+}
+
 // How many of `n` bytes from `at` lie within `len`.
 fn room(len: usize, at: usize, n: usize) -> usize
     ensures { λ r. ⌜ r ≡ min n (len - at) ⌝ }
@@ -123,6 +141,14 @@ pub fn put(b: &mut [u8], at: usize, n: usize, v: u64)
         b[at + i] = (w % 256) as u8;
         w = w / 256;
         i += 1;
+    }
+}
+
+pub fn put_u8(b: &mut [u8], at: usize, v: u8)
+    ensures { λ _. ⌜ now (b .exit) ≡ splice (now (b .entry)) at (v ∷ []) ⌝ }
+{
+    if at < b.len() {
+        b[at] = v;
     }
 }
 

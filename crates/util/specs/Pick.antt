@@ -1,6 +1,6 @@
 -- One of two by a test: the `if` of every definition. Below it the laws of tests, in the forms that the code's branches leave.
 use mathlib.Core.Path.{_≡_, refl, sym, ap, _∙_}
-use mathlib.Core.Bool.{Bool, true, false, _&&_, not}
+use mathlib.Core.Bool.{Bool, true, false, _&&_, _||_, not, and-false, or-true}
 use mathlib.Core.Logic.{_⊎_, inl, inr, ⊎-elim}
 use Prim.Native.Nat.{ℕ, _+_, _-_, _≤_, _<_}
 use native.Mathlib.Omega.{arith}
@@ -101,5 +101,30 @@ module _ (r t : Bool) where
   not-no e h = cc (not-true r h)
 
 pub ruleset picks = (pick-yes, pick-no, lt-yes, lt-no, le-yes, le-no, eq-yes, eq-no, flag-yes, flag-no, not-yes, not-no)
+
+-- ---- `&&`, `||` and `not` from what is known of their parts
+module _ (a b : Bool) where
+  pub and-no-left : a ≡ false → a && b ≡ false
+  and-no-left e = rw e
+
+  pub and-no-right : b ≡ false → a && b ≡ false
+  and-no-right e = rw e (and-false a)
+
+  pub or-left : a ≡ true → a || b ≡ true
+  or-left e = rw e
+
+  pub or-right : b ≡ true → a || b ≡ true
+  or-right e = rw e (or-true a)
+
+  pub or-none : a ≡ false → b ≡ false → a || b ≡ false
+  or-none e d = rw (e, d)
+
+pub not-of-true : (a : Bool) → a ≡ true → not a ≡ false
+not-of-true a e = rw e
+
+pub not-of-false : (a : Bool) → a ≡ false → not a ≡ true
+not-of-false a e = rw e
+
+pub ruleset bools = (and-both, and-no-left, and-no-right, or-left, or-right, or-none, not-of-true, not-of-false)
 
 pub ruleset within-ways = (within-no, within-is)

@@ -1,0 +1,12 @@
+use borrow.Author.Needs.{needs}
+use Rattle.object.proofs.format.section_u32.Statement.{statement}
+use Rattle.object.proofs.format.section_u32.Tie as tie
+
+pub section-u32-spec : {M : Type 1} → statement M
+section-u32-spec =
+    tie.close
+    (tie.spec
+    (λ c. search needs)
+    (λ c. search needs)
+    (λ c. search needs)
+    (λ c. cc))

@@ -1,0 +1,12 @@
+use borrow.Author.Needs.{needs}
+use Rattle.object.proofs.format.symbol_u16.Statement.{statement}
+use Rattle.object.proofs.format.symbol_u16.Tie as tie
+
+pub symbol-u16-spec : {M : Type 1} → statement M
+symbol-u16-spec =
+    tie.close
+    (tie.spec
+    (λ c. search needs)
+    (λ c. search needs)
+    (λ c. search needs)
+    (λ c. cc))

@@ -1,0 +1,4 @@
+pub mod Format
+pub mod Section
+pub mod Symbol
+pub mod Relocation

@@ -1,0 +1,81 @@
+// The records of a COFF object, read from the standard; the Rust borrows the `object` crate for them.
+// A record past the end of the file reads as zeros, so that every reader is total.
+mod format;
+mod relocations;
+mod sections;
+mod symbols;
+
+pub use format::read_header;
+pub use format::string_length;
+pub use format::string_table;
+pub use relocations::relocation_address;
+pub use relocations::relocation_symbol;
+pub use relocations::relocation_type;
+pub use relocations::type_of;
+pub use sections::file_end;
+pub use sections::file_start;
+pub use sections::is_extended;
+pub use sections::is_loaded;
+pub use sections::is_uninitialized;
+pub use sections::permissions;
+pub use sections::range_length;
+pub use sections::raw_pointer;
+pub use sections::raw_size;
+pub use sections::relocation_count;
+pub use sections::relocation_pointer;
+pub use sections::relocation_records;
+pub use sections::relocation_start;
+pub use sections::virtual_address;
+pub use symbols::auxiliaries;
+pub use symbols::fill_primaries;
+pub use symbols::kind_number;
+pub use symbols::listed_value;
+pub use symbols::owed_after;
+pub use symbols::symbol_class;
+pub use symbols::symbol_kind;
+pub use symbols::symbol_place;
+pub use symbols::symbol_value;
+
+// What the file header says: where the tables are, and how many records they have.
+pub struct Header {
+    pub machine: u16,
+    pub sections: u32,
+    pub section_table: u32,
+    pub symbol_table: u32,
+    pub symbols: u32,
+}
+
+pub enum SymbolKind {
+    Unknown,
+    Text,
+    Data,
+    Section,
+    File,
+    Label,
+}
+
+// Where a symbol is: in a section, by its number from 1; undefined; common; absolute; nowhere, as a file's name; or a number with no meaning.
+pub enum Place {
+    In(u32),
+    Undefined,
+    Common,
+    Absolute,
+    Nowhere,
+    Other,
+}
+
+pub enum RelocationKind {
+    Absolute,
+    ImageOffset,
+    SectionOffset,
+    Relative,
+    NotCarried,
+    Unknown,
+}
+
+// The addend is in two's complement.
+pub struct RelocationType {
+    pub kind: RelocationKind,
+    pub bits: u64,
+    pub addend: u64,
+}

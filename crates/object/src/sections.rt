@@ -1,0 +1,200 @@
+// Section records; i counts from 0.
+use crate::Header;
+use crate::format::RELOCATION_SIZE;
+use crate::format::section_u16;
+use crate::format::section_u32;
+ghost use mathlib.Core.Path.{_≡_};
+ghost use Prim.Native.Nat.{_^_, _<_};
+ghost use Rattle.object.specs.Format.{virtualAddress, rawSize, rawPointer, relocationPointer, relocationField, flags};
+ghost use Rattle.object.specs.Section.{
+  loadedBy,
+  loaded,
+  uninitialized,
+  alignCode,
+  alignOf,
+  permissionsBy,
+  permissions,
+  fileStart,
+  fileEnd,
+  rangeLength,
+  extended,
+  relocationRecords,
+  relocationCount,
+  relocationStart,
+};
+
+// The flags that are looked at.
+const LNK_REMOVE: u32 = 0x800;
+
+const MEM_DISCARDABLE: u32 = 0x2000000;
+
+const CNT_UNINITIALIZED: u32 = 0x80;
+
+const LNK_NRELOC_OVFL: u32 = 0x1000000;
+
+const MEM_EXECUTE: u32 = 0x20000000;
+
+const MEM_READ: u32 = 0x40000000;
+
+const MEM_WRITE: u32 = 0x80000000;
+
+pub fn virtual_address(f: &[u8], h: Header, i: u32) -> u32
+    ensures { λ r. ⌜ r ≡ virtualAddress (now (f .entry)) h i ⌝ }
+{
+    section_u32(f, h, i, 12)
+}
+
+pub fn raw_size(f: &[u8], h: Header, i: u32) -> u32
+    ensures { λ r. ⌜ r ≡ rawSize (now (f .entry)) h i ⌝ }
+{
+    section_u32(f, h, i, 16)
+}
+
+pub fn raw_pointer(f: &[u8], h: Header, i: u32) -> u32
+    ensures { λ r. ⌜ r ≡ rawPointer (now (f .entry)) h i ⌝ }
+{
+    section_u32(f, h, i, 20)
+}
+
+pub fn relocation_pointer(f: &[u8], h: Header, i: u32) -> u32
+    ensures { λ r. ⌜ r ≡ relocationPointer (now (f .entry)) h i ⌝ }
+{
+    section_u32(f, h, i, 24)
+}
+
+fn relocation_field(f: &[u8], h: Header, i: u32) -> u16
+    ensures { λ r. ⌜ r ≡ relocationField (now (f .entry)) h i ⌝ }
+{
+    section_u16(f, h, i, 32)
+}
+
+fn section_flags(f: &[u8], h: Header, i: u32) -> u32
+    ensures { λ r. ⌜ r ≡ flags (now (f .entry)) h i ⌝ }
+{
+    section_u32(f, h, i, 36)
+}
+
+fn loaded_by(x: u32) -> bool
+    ensures { λ r. ⌜ r ≡ loadedBy x ⌝ }
+{
+    let removed = x / LNK_REMOVE % 2 == 1;
+    if removed {
+        return false;
+    }
+    let discardable = x / MEM_DISCARDABLE % 2 == 1;
+    !discardable
+}
+
+// Neither removed nor discardable.
+pub fn is_loaded(f: &[u8], h: Header, i: u32) -> bool
+    ensures { λ r. ⌜ r ≡ loaded (now (f .entry)) h i ⌝ }
+{
+    loaded_by(section_flags(f, h, i))
+}
+
+pub fn is_uninitialized(f: &[u8], h: Header, i: u32) -> bool
+    ensures { λ r. ⌜ r ≡ uninitialized (now (f .entry)) h i ⌝ }
+{
+    section_flags(f, h, i) / CNT_UNINITIALIZED % 2 == 1
+}
+
+// The alignment that a code means: 1 to 14 are powers of two, the others 16.
+fn align_of(n: u32) -> u32
+    ensures { λ r. ⌜ r ≡ alignOf n ⌝ }
+{
+    if n < 1 {
+        return 16;
+    }
+    if n <= 14 { 1 << (n - 1) } else { 16 }
+}
+
+fn permissions_by(x: u32) -> u32
+    ensures { λ r. ⌜ r ≡ permissionsBy x ⌝ }
+{
+    x / MEM_READ % 2 + x / MEM_WRITE % 2 * 2 + x / MEM_EXECUTE % 2 * 4
+}
+
+// Read 1, write 2, execute 4.
+pub fn permissions(f: &[u8], h: Header, i: u32) -> u32
+    ensures { λ r. ⌜ r ≡ permissions (now (f .entry)) h i ⌝ }
+{
+    permissions_by(section_flags(f, h, i))
+}
+
+// Where its bytes start in the file; 0 for an uninitialised section.
+pub fn file_start(f: &[u8], h: Header, i: u32) -> u32
+    ensures { λ r. ⌜ r ≡ fileStart (now (f .entry)) h i ⌝ }
+{
+    if is_uninitialized(f, h, i) {
+        0
+    } else {
+        raw_pointer(f, h, i)
+    }
+}
+
+// Where they end.
+pub fn file_end(f: &[u8], h: Header, i: u32) -> u64
+    ensures { λ r. ⌜ r ≡ fileEnd (now (f .entry)) h i ⌝ }
+{
+    if is_uninitialized(f, h, i) {
+        0
+    } else {
+        raw_pointer(f, h, i) as u64 + raw_size(f, h, i) as u64
+    }
+}
+
+// How much of the image the section takes: its raw size, rounded up to its alignment.
+pub fn range_length(f: &[u8], h: Header, i: u32) -> u64
+    ensures { λ r. ⌜ r ≡ rangeLength (now (f .entry)) h i ⌝ }
+{
+    let align = align_of(section_flags(f, h, i) / 0x100000 % 16);
+    util::align(raw_size(f, h, i) as u64, align as u64)
+}
+
+// The first relocation record holds the real count.
+pub fn is_extended(f: &[u8], h: Header, i: u32) -> bool
+    ensures { λ r. ⌜ r ≡ extended (now (f .entry)) h i ⌝ }
+{
+    let over = section_flags(f, h, i) / LNK_NRELOC_OVFL % 2 == 1;
+    if over {
+        relocation_field(f, h, i) == 65535
+    } else {
+        false
+    }
+}
+
+// How many records stand at the relocation pointer, the one with the count included.
+pub fn relocation_records(f: &[u8], h: Header, i: u32) -> u32
+    ensures { λ r. ⌜ r ≡ relocationRecords (now (f .entry)) h i ⌝ }
+{
+    if is_extended(f, h, i) {
+        le::u32_at(f, relocation_pointer(f, h, i) as usize)
+    } else {
+        relocation_field(f, h, i) as u32
+    }
+}
+
+// How many relocations the section has.
+pub fn relocation_count(f: &[u8], h: Header, i: u32) -> u32
+    ensures { λ r. ⌜ r ≡ relocationCount (now (f .entry)) h i ⌝ }
+{
+    let n = relocation_records(f, h, i);
+    if is_extended(f, h, i) {
+        if n == 0 { 0 } else { n - 1 }
+    } else {
+        n
+    }
+}
+
+// Where relocation 0 starts.
+pub fn relocation_start(f: &[u8], h: Header, i: u32) -> usize
+    ensures { λ r. ⌜ r ≡ relocationStart (now (f .entry)) h i ⌝ }
+    ensures { λ r. ⌜ r < 2 ^ 33 ⌝ }
+{
+    let start = relocation_pointer(f, h, i) as usize;
+    if is_extended(f, h, i) {
+        start + RELOCATION_SIZE
+    } else {
+        start
+    }
+}
