@@ -139,6 +139,10 @@ pub length-part : (l : List ℕ) (i n : ℕ) → i + n ≤ length l → length (
 unfolding part
 length-part l i n h = simp (length-take, length-drop) (omega arith)
 
+pub part-most : (l : List ℕ) (i n : ℕ) → length (part l i n) ≤ n
+unfolding part
+part-most l i n = rw length-take (omega arith)
+
 pub part-at : (l : List ℕ) (i n k : ℕ) → k < n → getD (part l i n) k 0 ≡ getD l (i + k) 0
 unfolding part
 part-at l i n k h = rw (getD-take, getD-drop)

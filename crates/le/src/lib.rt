@@ -96,7 +96,7 @@ pub fn part(s: &[u8], from: usize, n: usize) -> &[u8]
 }
 
 // How many of `n` bytes from `at` lie within `len`.
-fn room(len: usize, at: usize, n: usize) -> usize
+pub fn room(len: usize, at: usize, n: usize) -> usize
     ensures { λ r. ⌜ r ≡ min n (len - at) ⌝ }
 {
     if at < len {

@@ -85,6 +85,7 @@ pub fn symbol_at(h: Header, j: u32) -> usize
 // Where the string table starts: behind the symbols.
 pub fn string_table(h: Header) -> usize
     ensures { λ r. ⌜ r ≡ stringTable h ⌝ }
+    ensures { λ r. ⌜ r < 2 ^ 38 ⌝ }
 {
     symbol_at(h, h.symbols)
 }

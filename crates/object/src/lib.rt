@@ -6,8 +6,10 @@ mod sections;
 mod symbols;
 
 pub use format::read_header;
+pub use format::section_at;
 pub use format::string_length;
 pub use format::string_table;
+pub use format::symbol_at;
 pub use relocations::relocation_address;
 pub use relocations::relocation_symbol;
 pub use relocations::relocation_type;

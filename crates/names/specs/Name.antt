@@ -1,0 +1,70 @@
+-- The names of sections and symbols: a part of the file's bytes, good or bad (01, "Records"; PE/COFF, "Section Table", "Symbol Name Representation", "COFF String Table").
+use mathlib.Core.Bool.{Bool, true, false, _&&_}
+use mathlib.Core.List.{List, []}
+use Prim.Native.Nat.{ℕ, _+_, _-_}
+use lib.ListN.{getD}
+use lib.Dec.{ltb, leb, eqb}
+use Rattle.util.specs.Pick.{pick}
+use Rattle.le.specs.Le.{get, part}
+use Rattle.object.specs.declared.Header.{Header}
+use Rattle.object.specs.Format.{NAME-SIZE, sectionAt, symbolAt, stringTable, stringLength}
+use Rattle.names.specs.declared.Name.{Name}
+use Rattle.names.specs.declared.Name.the-variants.{Good, Bad}
+use Rattle.names.specs.Bytes.{run, goodSectionName, goodSymbolName, allDigits, decimal}
+
+-- the bytes of a name: that part of the file; of a bad one none
+unfoldable pub nameBytes : List ℕ → Name → List ℕ
+nameBytes f (Good at n) = part f at n
+nameBytes f Bad = []
+
+-- ---- where a name stands
+-- in the field itself: up to the first zero, or all eight bytes
+abbrev pub shortRun : List ℕ → ℕ → Name
+shortRun f at = Good at (run f at NAME-SIZE)
+
+-- in the string table at an offset of at least 4, up to a zero that lies within the table
+unfoldable pub longRun : List ℕ → Header → ℕ → Name
+longRun f h offset =
+    pick (leb 4 offset && ltb (run f (stringTable h + offset) (stringLength f h - offset)) (stringLength f h - offset))
+    (Good (stringTable h + offset) (run f (stringTable h + offset) (stringLength f h - offset)))
+    Bad
+
+-- a symbol's: with the first four bytes zero the next four are the offset; else a first byte of zero is bad, and the name is in the field
+unfoldable pub symbolRun : List ℕ → Header → ℕ → Name
+symbolRun f h at = pick (eqb (get 4 f at) 0) (longRun f h (get 4 f (at + 4))) (pick (eqb (getD f at 0) 0) Bad (shortRun f at))
+
+-- a section's that begins with a slash: one to seven digits behind it are the offset; any other form is bad
+abbrev pub SLASH : ℕ
+SLASH = 0x2F
+
+abbrev pub slashDigits : List ℕ → ℕ → List ℕ
+slashDigits f at = part f (at + 1) (run f at NAME-SIZE - 1)
+
+unfoldable pub slashRun : List ℕ → Header → ℕ → Name
+slashRun f h at = pick (leb 2 (run f at NAME-SIZE) && allDigits (slashDigits f at)) (longRun f h (decimal (slashDigits f at))) Bad
+
+unfoldable pub sectionRun : List ℕ → Header → ℕ → Name
+sectionRun f h at = pick (eqb (getD f at 0) SLASH) (slashRun f h at) (shortRun f at)
+
+-- ---- and the rule on its bytes
+unfoldable pub checked : (List ℕ → Bool) → List ℕ → Name → Name
+checked good f (Good at n) = pick (good (part f at n)) (Good at n) Bad
+checked good f Bad = Bad
+
+abbrev pub sectionNameAt : List ℕ → Header → ℕ → Name
+sectionNameAt f h at = checked goodSectionName f (sectionRun f h at)
+
+abbrev pub symbolNameAt : List ℕ → Header → ℕ → Name
+symbolNameAt f h at = checked goodSymbolName f (symbolRun f h at)
+
+-- of section i and symbol j
+abbrev pub sectionName : List ℕ → Header → ℕ → Name
+sectionName f h i = sectionNameAt f h (sectionAt h i)
+
+abbrev pub symbolName : List ℕ → Header → ℕ → Name
+symbolName f h j = symbolNameAt f h (symbolAt h j)
+
+-- 6 is not given for it
+abbrev pub isGood : Name → Bool
+isGood (Good at n) = true
+isGood Bad = false

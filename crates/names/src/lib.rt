@@ -1,0 +1,25 @@
+// Names of sections and symbols, and their order. A name is handed back as that part of the file's bytes.
+mod place;
+mod text;
+
+pub use place::is_good;
+pub use place::name_bytes;
+pub use place::section_name;
+pub use place::symbol_name;
+pub use text::compare;
+pub use text::good_section_name;
+pub use text::good_symbol_name;
+pub use text::is_undef;
+pub use text::same;
+
+// Where a good name starts in the file, and how long it is.
+pub enum Name {
+    Good(usize, usize),
+    Bad,
+}
+
+pub enum Order {
+    Less,
+    Equal,
+    Greater,
+}

@@ -1,0 +1,156 @@
+// Names in the records and in the string table.
+use crate::Name;
+use crate::text::all_digits;
+use crate::text::decimal;
+use crate::text::good_section_name;
+use crate::text::good_symbol_name;
+use crate::text::run;
+use object::Header;
+ghost use mathlib.Core.Path.{_≡_};
+ghost use Prim.Native.Nat.{_<_, _^_};
+ghost use Rattle.names.specs.Bytes.{goodSectionName, goodSymbolName};
+ghost use Rattle.names.specs.Name.{
+  longRun,
+  symbolRun,
+  slashRun,
+  sectionRun,
+  checked,
+  sectionName,
+  symbolName,
+  nameBytes,
+  isGood,
+};
+
+// The bytes of a name field, and the string table's own length field, behind which strings stand.
+const NAME_SIZE: usize = 8;
+
+const FIRST_STRING: usize = 4;
+
+const SLASH: u8 = 0x2F;
+
+// The part of the string table at `offset`, up to a zero that lies within the table.
+fn long_run(f: &[u8], h: Header, offset: u64) -> Name
+    ensures { λ r. ⌜ r ≡ longRun (now (f .entry)) h offset ⌝ }
+{
+    let length = object::string_length(f, h) as usize;
+    let from = offset as usize;
+    if from < FIRST_STRING {
+        return Name::Bad;
+    }
+    if length <= from {
+        return Name::Bad;
+    }
+    let at = object::string_table(h) + from;
+    let n = run(f, at, length - from);
+    if n < length - from {
+        Name::Good(at, n)
+    } else {
+        Name::Bad
+    }
+}
+
+fn symbol_run(f: &[u8], h: Header, at: usize) -> Name
+    requires { ⌜ at < 2 ^ 38 ⌝ }
+    ensures { λ r. ⌜ r ≡ symbolRun (now (f .entry)) h at ⌝ }
+{
+    let long = le::u32_at(f, at) == 0;
+    if long {
+        return long_run(f, h, le::u32_at(f, at + 4) as u64);
+    }
+    let empty = le::byte_at(f, at) == 0;
+    if empty {
+        Name::Bad
+    } else {
+        Name::Good(at, run(f, at, NAME_SIZE))
+    }
+}
+
+// A slash and one to seven digits: the offset of the name in the string table.
+fn slash_run(f: &[u8], h: Header, at: usize) -> Name
+    requires { ⌜ at < 2 ^ 38 ⌝ }
+    ensures { λ r. ⌜ r ≡ slashRun (now (f .entry)) h at ⌝ }
+{
+    let n = run(f, at, NAME_SIZE);
+    if n < 2 {
+        return Name::Bad;
+    }
+    let digits = le::part(f, at + 1, n - 1);
+    if all_digits(digits) {
+        long_run(f, h, decimal(digits))
+    } else {
+        Name::Bad
+    }
+}
+
+fn section_run(f: &[u8], h: Header, at: usize) -> Name
+    requires { ⌜ at < 2 ^ 38 ⌝ }
+    ensures { λ r. ⌜ r ≡ sectionRun (now (f .entry)) h at ⌝ }
+{
+    let slash = le::byte_at(f, at) == SLASH;
+    if slash {
+        slash_run(f, h, at)
+    } else {
+        Name::Good(at, run(f, at, NAME_SIZE))
+    }
+}
+
+fn checked_section(f: &[u8], name: Name) -> Name
+    ensures { λ r. ⌜ r ≡ checked goodSectionName (now (f .entry)) name ⌝ }
+{
+    match name {
+        Name::Good(at, n) => {
+            if good_section_name(le::part(f, at, n)) {
+                Name::Good(at, n)
+            } else {
+                Name::Bad
+            }
+        }
+        Name::Bad => Name::Bad,
+    }
+}
+
+fn checked_symbol(f: &[u8], name: Name) -> Name
+    ensures { λ r. ⌜ r ≡ checked goodSymbolName (now (f .entry)) name ⌝ }
+{
+    match name {
+        Name::Good(at, n) => {
+            if good_symbol_name(le::part(f, at, n)) {
+                Name::Good(at, n)
+            } else {
+                Name::Bad
+            }
+        }
+        Name::Bad => Name::Bad,
+    }
+}
+
+pub fn section_name(f: &[u8], h: Header, i: u32) -> Name
+    ensures { λ r. ⌜ r ≡ sectionName (now (f .entry)) h i ⌝ }
+{
+    checked_section(f, section_run(f, h, object::section_at(h, i)))
+}
+
+pub fn symbol_name(f: &[u8], h: Header, j: u32) -> Name
+    ensures { λ r. ⌜ r ≡ symbolName (now (f .entry)) h j ⌝ }
+{
+    checked_symbol(f, symbol_run(f, h, object::symbol_at(h, j)))
+}
+
+// The bytes of a name: that part of the file; of a bad one none.
+pub fn name_bytes(f: &[u8], name: Name) -> &[u8]
+    ensures { λ r. ⌜ now r ≡ nameBytes (now (f .entry)) name ⌝ }
+{
+    match name {
+        Name::Good(at, n) => le::part(f, at, n),
+        Name::Bad => &f[..0],
+    }
+}
+
+pub fn is_good(name: Name) -> bool
+    ensures { λ r. ⌜ r ≡ isGood name ⌝ }
+{
+    match name {
+        Name::Good(_, _) => true,
+        Name::Bad => false,
+    }
+}
