@@ -48,12 +48,10 @@ pub fn u32_at(s: &[u8], at: usize) -> u32
         if 3 < n - at {
             join32(s[at], s[at + 1], s[at + 2], s[at + 3])
         } else {
-            join32(
-                s[at],
-                byte_at(s, at + 1),
-                byte_at(s, at + 2),
-                byte_at(s, at + 3),
-            )
+            let b = byte_at(s, at + 1);
+            let c = byte_at(s, at + 2);
+            let d = byte_at(s, at + 3);
+            join32(s[at], b, c, d)
         }
     } else {
         0
@@ -196,5 +194,20 @@ pub fn put_u64(b: &mut [u8], at: usize, v: u64)
         b[at + 7] = (v7 % 256) as u8;
     } else {
         put(b, at, 8, v);
+    }
+}
+
+// The same for words: the one at `at`, 0 past the end, and one put there.
+pub fn word_at(s: &[u64], at: usize) -> u64
+    ensures { λ r. ⌜ r ≡ getD (now (s .entry)) at 0 ⌝ }
+{
+    if at < s.len() { s[at] } else { 0 }
+}
+
+pub fn put_word(b: &mut [u64], at: usize, v: u64)
+    ensures { λ _. ⌜ now (b .exit) ≡ splice (now (b .entry)) at (v ∷ []) ⌝ }
+{
+    if at < b.len() {
+        b[at] = v;
     }
 }

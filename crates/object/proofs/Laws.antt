@@ -15,7 +15,7 @@ use borrow.Author.Tests.{leb-true, eq-eqb, ne-eqb, le-leb, lt-leb, lt-ltb, le-lt
 use mir.Syntax.{w16}
 use mir.Val.{toZ}
 use Rattle.util.specs.Pick.{pick, le-or-lt, yes-no}
-use Rattle.util.specs.Align.{roundUp, align-exact}
+use Rattle.util.specs.Align.{roundUp, align-exact, up-one, up-near}
 use Rattle.le.specs.Le.{get, le, splice, splice-next}
 use Rattle.object.specs.declared.Header.{Header}
 use Rattle.object.specs.declared.SymbolKind.{SymbolKind}
@@ -203,6 +203,12 @@ permissions-sum x =
     let c = digit (x / 0x20000000 % 2) 4 (omega arith) in
     omega arith
 
+-- the size in the image is small
+pub range-small : (size n r : ℕ) → size < 2 ^ 32 → n < 2 ^ 32 → r ≡ roundUp size n % 2 ^ 64 → r < 2 ^ 33
+range-small size n r d e q =
+    rw (q, align-exact size n (omega arith) (omega arith))
+    (⊎-elim (λ k. rw (up-one size n k) (omega arith)) (λ k. let u = up-near size n k in omega arith) (le-or-lt n 1))
+
 -- ---- of section i
 module _ (f : List ℕ) (h : Header) (i : ℕ) where
   -- the size in the image never wraps
@@ -249,4 +255,4 @@ module _ (f : List ℕ) (h : Header) (i : ℕ) where
     unfolding relocationStart pick
     start-plain p t a = rw (← is, t) a
 
-pub ruleset section-ways = (range-fits, end-none, end-some, records-extended, records-plain, count-extended, count-extended-none, count-plain, start-extended, start-plain)
+pub ruleset section-ways = (range-fits, range-small, end-none, end-some, records-extended, records-plain, count-extended, count-extended-none, count-plain, start-extended, start-plain)

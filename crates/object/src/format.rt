@@ -20,7 +20,7 @@ pub fn read_header(f: &[u8]) -> Header
 {
     Header {
         machine: le::u16_at(f, 0),
-        sections: le::u16_at(f, 2) as u32,
+        sections: le::u16_at(f, 2),
         section_table: HEADER_SIZE + le::u16_at(f, 16) as u32,
         symbol_table: le::u32_at(f, 8),
         symbols: symbol_count(f),

@@ -41,7 +41,7 @@ pub use symbols::symbol_value;
 // What the file header says: where the tables are, and how many records they have.
 pub struct Header {
     pub machine: u16,
-    pub sections: u32,
+    pub sections: u16,
     pub section_table: u32,
     pub symbol_table: u32,
     pub symbols: u32,

@@ -146,6 +146,7 @@ pub fn file_end(f: &[u8], h: Header, i: u32) -> u64
 // How much of the image the section takes: its raw size, rounded up to its alignment.
 pub fn range_length(f: &[u8], h: Header, i: u32) -> u64
     ensures { λ r. ⌜ r ≡ rangeLength (now (f .entry)) h i ⌝ }
+    ensures { λ r. ⌜ r < 2 ^ 33 ⌝ }
 {
     let align = align_of(section_flags(f, h, i) / 0x100000 % 16);
     util::align(raw_size(f, h, i) as u64, align as u64)

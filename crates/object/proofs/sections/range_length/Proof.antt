@@ -13,4 +13,4 @@ range-length-spec =
     (λ c. search (needs, section-ways))
     (λ c. search (needs, section-ways))
     (λ c. search (needs, section-ways))
-    (λ c. search (needs, section-ways)))
+    (λ c. (search (needs, section-ways), search (needs, section-ways))))

@@ -1,0 +1,136 @@
+-- The loops of the layout. Assumes nothing.
+use mathlib.Core.Path.{_≡_, refl, sym, ap, _∙_}
+use mathlib.Core.Bool.{Bool, true, false, _&&_}
+use mathlib.Core.List.{List, [], _∷_, _++_}
+use Prim.Native.Nat.{ℕ, zero, suc, _+_, _-_, _*_, _≤_, _<_, _%_, _^_}
+use native.Mathlib.Omega.{arith}
+use native.Mathlib.Numerals.{add-one}
+use lib.Dec.{eqb}
+use lib.ListN.{length, length-append}
+use borrow.Author.Tests.{eq-eqb, ne-eqb}
+use Rattle.util.specs.Pick.{pick}
+use Rattle.util.specs.Align.{roundUp, align-exact, up-near}
+use Rattle.util.specs.Prefix.{countTo}
+use Rattle.le.specs.Le.{splice, splice-next}
+use Rattle.object.specs.declared.Header.{Header}
+use Rattle.object.specs.Section.{loaded, fileStart, rangeLength}
+use Rattle.layout.specs.declared.Home.{Home}
+use Rattle.layout.specs.declared.Home.the-variants.{At, Undef, Nowhere}
+use Rattle.layout.specs.Layout.{nextStart, startAt, undefStart, recordOf, tableRecords}
+use Rattle.layout.specs.Home.{isHome, homeIn, homeOf, homeCell, homesTo}
+
+-- ---- one section further
+pub next-is : (at n r : ℕ) → at < 2 ^ 60 → n < 2 ^ 33 → r ≡ roundUp (at + n) 4096 % 2 ^ 64 → r ≡ roundUp (at + n) 4096
+next-is at n r a b e = e ∙ align-exact (at + n) 4096 (omega arith) (omega arith)
+
+next-near : (at n r : ℕ) → at < 2 ^ 60 → n < 2 ^ 33 → r ≡ roundUp (at + n) 4096 % 2 ^ 64 → r ≤ at + 2 ^ 34
+next-near at n r a b e =
+    let q : r ≡ roundUp (at + n) 4096 = next-is at n r a b e in
+    let u : roundUp (at + n) 4096 < at + n + 4096 = up-near (at + n) 4096 (omega arith) in
+    omega arith
+
+pub record Next (f : List ℕ) (h : Header) (i at r : ℕ) : Type 0 where
+  pub is : r ≡ nextStart f h i at
+  pub near : r ≤ at + 2 ^ 34
+
+module _ (f : List ℕ) (h : Header) (i at : ℕ) (l : Bool) where
+  pub next-loaded : (n r : ℕ) → at < 2 ^ 60 → l ≡ loaded f h i → l ≡ true → n < 2 ^ 33 → n ≡ rangeLength f h i → r ≡ roundUp (at + n) 4096 % 2 ^ 64 → Next f h i at r
+  unfolding nextStart pick
+  next-loaded n r a q t b p e = record { is = rw (← q, t, ← p) (next-is at n r a b e); near = next-near at n r a b e }
+
+  pub next-unloaded : l ≡ loaded f h i → l ≡ false → Next f h i at at
+  unfolding nextStart pick
+  next-unloaded q t = record { is = rw (← q, t); near = omega arith }
+
+module _ (f : List ℕ) (h : Header) where
+  pub start-none : 0 ≡ startAt f h 0
+  unfolding startAt
+  start-none = refl
+
+  module _ (i at : ℕ) where
+    pub start-again : (r : ℕ) → at ≡ startAt f h i → r ≡ nextStart f h i at → r ≡ startAt f h (i + 1)
+    unfolding startAt
+    start-again r e p = rw (add-one, ← e) p
+
+    pub start-end : (n m : ℕ) → at ≡ startAt f h i → i ≤ n → n ≤ i → n ≡ m → at ≡ startAt f h m
+    start-end n m e a b q = let z : i ≡ n = omega arith in cc
+
+  -- ---- table records
+  pub record-none : 0 ≡ recordOf f h 0
+  unfolding countTo
+  record-none = refl
+
+  module _ (i c : ℕ) where
+    pub record-loaded : (l : Bool) → c ≡ recordOf f h i → l ≡ loaded f h i → l ≡ true → c + 1 ≡ recordOf f h (i + 1)
+    unfolding countTo pick
+    record-loaded l e q t = rw (add-one i, ← q, t, ← e)
+
+    pub record-unloaded : (l : Bool) → c ≡ recordOf f h i → l ≡ loaded f h i → l ≡ false → c ≡ recordOf f h (i + 1)
+    unfolding countTo pick
+    record-unloaded l e q t = rw (add-one i, ← q, t, ← e) (omega arith)
+
+    pub record-end : (n : ℕ) → c ≡ recordOf f h i → i ≤ n → n ≤ i → n ≡ h .sections → c + 1 ≡ tableRecords f h
+    record-end n e a b q = let z : i ≡ h .sections = omega arith in rw (← z, ← e)
+
+  -- ---- homes: what is left of the search is the answer
+  module _ (s j n : ℕ) where
+    left : j < n → n - j ≡ suc (n - (j + 1))
+    left k = omega arith
+
+    pub home-here : (at : ℕ) (t : Bool) (x : Home) → j < n → at ≡ startAt f h j → t ≡ isHome f h s j → t ≡ true → homeIn f h s j (n - j) ≡ x → at + 1 ≡ homeCell f h x
+    unfolding homeIn homeCell pick
+    home-here at t x k a q e p = rw (← p, left k, ← q, e, a)
+
+    pub home-other : (t : Bool) (x : Home) → j < n → t ≡ isHome f h s j → t ≡ false → homeIn f h s j (n - j) ≡ x → homeIn f h s (j + 1) (n - (j + 1)) ≡ x
+    unfolding homeIn pick
+    home-other t x k q e p = rw (left k, ← q, e) at p
+
+    pub home-undef : (at : ℕ) (x : Home) → n ≤ j → j ≤ n → n ≡ h .sections → at ≡ startAt f h j → s ≡ 0 → homeIn f h s j (n - j) ≡ x → at + 1 ≡ homeCell f h x
+    unfolding homeIn homeCell pick
+    home-undef at x k k2 m a z p =
+        let d : n - j ≡ 0 = omega arith in
+        let w : j ≡ h .sections = omega arith in
+        rw (← p, d, z, a, w)
+
+    pub home-none : (x : Home) → n ≤ j → (s ≡ 0 → ⊥) → homeIn f h s j (n - j) ≡ x → 0 ≡ homeCell f h x
+    unfolding homeIn homeCell pick
+    home-none x k z p = let d : n - j ≡ 0 = omega arith in rw (← p, d, ne-eqb s 0 z)
+
+  pub home-begin : (s n : ℕ) → n ≡ h .sections → homeIn f h s 0 (n - 0) ≡ homeIn f h s 0 (h .sections)
+  home-begin s n e = let d : n - 0 ≡ h .sections = omega arith in rw d
+
+  -- ---- all homes
+  length-homes : (n : ℕ) → length (homesTo f h n) ≡ n
+  unfolding homesTo
+  length-homes zero = refl
+  length-homes (suc n) = simp (length-append, length-homes n) (omega arith)
+
+  pub homes-none : (l : List ℕ) → l ≡ splice l 0 (homesTo f h 0)
+  unfolding splice homesTo
+  homes-none l = refl
+
+  pub homes-again : (l b b′ : List ℕ) (i x : ℕ) → b ≡ splice l 0 (homesTo f h i) → x ≡ homeCell f h (homeOf f h i) → b′ ≡ splice b i (x ∷ []) → b′ ≡ splice l 0 (homesTo f h (i + 1))
+  unfolding homesTo
+  homes-again l b b′ i x e q d = rw (d, e, splice-next l 0 (homesTo f h i) (x ∷ []) i (let z = length-homes i in omega arith), q, add-one)
+
+  pub homes-end : (l b : List ℕ) (i n m : ℕ) → b ≡ splice l 0 (homesTo f h i) → i ≤ n → n ≤ i → n ≡ m → b ≡ splice l 0 (homesTo f h m)
+  homes-end l b i n m e a c q = let z : i ≡ n = omega arith in cc
+
+module _ (f : List ℕ) (h : Header) (s j : ℕ) (l : Bool) where
+  pub is-home-loaded : (r : ℕ) → l ≡ loaded f h j → l ≡ true → r ≡ fileStart f h j → eqb r s ≡ isHome f h s j
+  unfolding isHome
+  is-home-loaded r q t e = rw (← q, t, e)
+
+  pub is-home-unloaded : l ≡ loaded f h j → l ≡ false → false ≡ isHome f h s j
+  unfolding isHome
+  is-home-unloaded q t = rw (← q, t)
+
+pub ruleset next-ways = (next-loaded, next-unloaded, is-home-loaded, is-home-unloaded)
+
+pub ruleset start-loop = (start-none, start-again, start-end)
+
+pub ruleset record-loop = (record-none, record-loaded, record-unloaded, record-end)
+
+pub ruleset home-loop = (start-none, start-again, home-begin, home-here, home-other, home-undef, home-none)
+
+pub ruleset homes-loop = (homes-none, homes-again, homes-end)

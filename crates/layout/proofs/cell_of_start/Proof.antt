@@ -1,0 +1,34 @@
+use borrow.Author.Needs.{needs}
+use Rattle.layout.proofs.Laws.{home-loop, start-loop}
+use Prim.Native.Nat.{_+_, _-_, _*_, _≤_}
+use mathlib.Core.Path.{_≡_}
+use native.Mathlib.Omega.{arith}
+use Rattle.layout.specs.Layout.{startAt}
+use Rattle.layout.specs.Home.{homeIn}
+use Rattle.layout.proofs.cell_of_start.Statement.{statement}
+use Rattle.layout.proofs.cell_of_start.Tie as tie
+
+abbrev Inv-loop : tie.InvT-loop
+Inv-loop f h s n at₀ j₀ at j = (j ≤ n) × (at ≤ 17179869184 * j) × (at ≡ startAt f h j) × (homeIn f h s j (n - j) ≡ homeIn f h s 0 (h .sections))
+
+abbrev μ-loop : tie.MeasureT-loop
+μ-loop f h s n at₀ j₀ at j = n - j
+
+pub cell-of-start-spec : {M : Type 1} → statement M
+cell-of-start-spec =
+    tie.close
+    (tie.spec
+    Inv-loop
+    μ-loop
+    (λ c. search (needs, home-loop, start-loop))
+    (λ c. search (needs, home-loop, start-loop))
+    (λ c. search (needs, home-loop, start-loop))
+    (λ c. search (needs, home-loop, start-loop))
+    (λ c. search (needs, home-loop, start-loop))
+    (λ c. search (needs, home-loop, start-loop))
+    (λ c. search (needs, home-loop, start-loop))
+    (λ c. search (needs, home-loop, start-loop))
+    (λ c. (search needs, omega arith, search (needs, start-loop), search (needs, home-loop)))
+    (λ c. search (needs, home-loop, start-loop))
+    (λ c. search (needs, home-loop, start-loop))
+    (λ c. search (needs, home-loop, start-loop)))

@@ -1,0 +1,34 @@
+-- Where sections lie in the image, in offsets from the base (01, "Layout, slots and fixups").
+use mathlib.Core.List.{List}
+use Prim.Native.Nat.{ℕ, zero, suc, _+_, _*_}
+use Rattle.util.specs.Pick.{pick}
+use Rattle.util.specs.Align.{roundUp}
+use Rattle.util.specs.Prefix.{countTo}
+use Rattle.arch.specs.Page.{PAGE-SIZE, pageOf}
+use Rattle.object.specs.declared.Header.{Header}
+use Rattle.object.specs.Section.{loaded, rangeLength}
+
+module _ (f : List ℕ) (h : Header) where
+  -- the page boundary behind section i, if it is loaded and starts at `at`; an unloaded one takes no room
+  unfoldable pub nextStart : ℕ → ℕ → ℕ
+  nextStart i at = pick (loaded f h i) (roundUp (at + rangeLength f h i) PAGE-SIZE) at
+
+  -- loaded sections go in file order, each at the next page boundary, the first at the base
+  unfoldable pub startAt : ℕ → ℕ
+  startAt zero = 0
+  startAt (suc i) = nextStart i (startAt i)
+
+  -- UNDEF, which holds the extern slots, is one page behind them
+  abbrev pub undefStart : ℕ
+  undefStart = startAt (h .sections)
+
+  -- mapped are all pages up to UNDEF's end, and one more
+  abbrev pub mappedPages : ℕ
+  mappedPages = pageOf undefStart + 2
+
+  -- the section table has a record for each loaded section, in file order, and UNDEF's last; section i's stands behind those of the loaded sections below i
+  abbrev pub recordOf : ℕ → ℕ
+  recordOf i = countTo (loaded f h) i
+
+  abbrev pub tableRecords : ℕ
+  tableRecords = recordOf (h .sections) + 1

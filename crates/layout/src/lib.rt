@@ -1,0 +1,115 @@
+// The layout of the image, from load_coff_sections: where sections start, and which table record is a section's home. In offsets from the base.
+use arch::PAGE_SIZE;
+use object::Header;
+ghost use mathlib.Core.Path.{_≡_};
+ghost use Prim.Native.Nat.{_+_, _≤_, _^_, _<_};
+ghost use Rattle.le.specs.Le.{splice};
+ghost use Rattle.layout.specs.Layout.{nextStart, undefStart, mappedPages, tableRecords};
+ghost use Rattle.layout.specs.Home.{isHome, homeIn, homeOf, homeCell, homesTo};
+
+// A section's home: the record of a loaded section, by that section's number from 0; UNDEF's; or none.
+pub enum Home {
+    At(u32),
+    Undef,
+    Nowhere,
+}
+
+// The page boundary behind section i, if it is loaded and starts at `at`.
+fn next_start(f: &[u8], h: Header, i: u32, at: u64) -> u64
+    requires { ⌜ at < 2 ^ 60 ⌝ }
+    ensures { λ r. ⌜ r ≡ nextStart (now (f .entry)) h i at ⌝ }
+    ensures { λ r. ⌜ r ≤ at + 2 ^ 34 ⌝ }
+{
+    if object::is_loaded(f, h, i) {
+        util::align(at + object::range_length(f, h, i), PAGE_SIZE)
+    } else {
+        at
+    }
+}
+
+// Where UNDEF starts: at the page boundary behind the loaded sections.
+pub fn undef_start(f: &[u8], h: Header) -> u64
+    ensures { λ r. ⌜ r ≡ undefStart (now (f .entry)) h ⌝ }
+    ensures { λ r. ⌜ r < 2 ^ 51 ⌝ }
+{
+    let n = h.sections as u32;
+    let mut at: u64 = 0;
+    let mut i: u32 = 0;
+    while i < n {
+        at = next_start(f, h, i, at);
+        i += 1;
+    }
+    at
+}
+
+// The pages that are mapped.
+pub fn mapped_pages(f: &[u8], h: Header) -> u64
+    ensures { λ r. ⌜ r ≡ mappedPages (now (f .entry)) h ⌝ }
+{
+    undef_start(f, h) / PAGE_SIZE + 2
+}
+
+// How many records the section table has, UNDEF's included.
+pub fn table_records(f: &[u8], h: Header) -> u32
+    ensures { λ r. ⌜ r ≡ tableRecords (now (f .entry)) h ⌝ }
+{
+    let n = h.sections as u32;
+    let mut count: u32 = 0;
+    let mut i: u32 = 0;
+    while i < n {
+        if object::is_loaded(f, h, i) {
+            count += 1;
+            i += 1;
+        } else {
+            i += 1;
+        }
+    }
+    count + 1
+}
+
+// Whether section j is loaded and starts at `s` in the file.
+fn is_home(f: &[u8], h: Header, s: u32, j: u32) -> bool
+    ensures { λ r. ⌜ r ≡ isHome (now (f .entry)) h s j ⌝ }
+{
+    if object::is_loaded(f, h, j) {
+        object::file_start(f, h, j) == s
+    } else {
+        false
+    }
+}
+
+// Of the first table record that starts at `s` in the file: its start and one, or 0 where there is none.
+fn cell_of_start(f: &[u8], h: Header, s: u32) -> u64
+    ensures { λ r. ⌜ r ≡ homeCell (now (f .entry)) h (homeIn (now (f .entry)) h s 0 (h .sections)) ⌝ }
+{
+    let n = h.sections as u32;
+    let mut at: u64 = 0;
+    let mut j: u32 = 0;
+    while j < n {
+        if is_home(f, h, s, j) {
+            return at + 1;
+        }
+        at = next_start(f, h, j, at);
+        j += 1;
+    }
+    if s == 0 { at + 1 } else { 0 }
+}
+
+// The home of section i: its start and one, or 0 where it has none.
+pub fn home_cell(f: &[u8], h: Header, i: u32) -> u64
+    ensures { λ r. ⌜ r ≡ homeCell (now (f .entry)) h (homeOf (now (f .entry)) h i) ⌝ }
+{
+    cell_of_start(f, h, object::file_start(f, h, i))
+}
+
+// The homes of all sections, a word each.
+pub fn fill_homes(f: &[u8], h: Header, homes: &mut [u64])
+    ensures { λ _. ⌜ now (homes .exit) ≡ splice (now (homes .entry)) 0 (homesTo (now (f .entry)) h (h .sections)) ⌝ }
+{
+    let n = h.sections as u32;
+    let mut i: u32 = 0;
+    while i < n {
+        le::put_word(homes, i as usize, home_cell(f, h, i));
+        i += 1;
+    }
+}
