@@ -1,0 +1,15 @@
+use borrow.Author.Needs.{needs}
+use Rattle.checks.proofs.Laws.{section-checks}
+use Rattle.checks.proofs.data_ok.Statement.{statement}
+use Rattle.checks.proofs.data_ok.Tie as tie
+
+pub data-ok-spec : {M : Type 1} → statement M
+data-ok-spec =
+    tie.close
+    (tie.spec
+    (λ c. search (needs, section-checks))
+    (λ c. search (needs, section-checks))
+    (λ c. search (needs, section-checks))
+    (λ c. search (needs, section-checks))
+    (λ c. search (needs, section-checks))
+    (λ c. search (needs, section-checks)))

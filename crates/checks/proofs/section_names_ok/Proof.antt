@@ -1,0 +1,30 @@
+use borrow.Author.Needs.{needs}
+use Rattle.util.specs.Prefix.{all-loop}
+use Prim.Native.Nat.{_+_, _-_, _*_, _≤_}
+use mathlib.Core.Path.{_≡_}
+use mathlib.Core.Bool.{true}
+use Rattle.util.specs.Prefix.{allTo}
+use Rattle.checks.specs.Checks.{sectionNameOk}
+use Rattle.checks.proofs.section_names_ok.Statement.{statement}
+use Rattle.checks.proofs.section_names_ok.Tie as tie
+
+abbrev Inv-loop : tie.InvT-loop
+Inv-loop f h n i₀ i = (i ≤ n) × (allTo (sectionNameOk f h) i ≡ true)
+
+abbrev μ-loop : tie.MeasureT-loop
+μ-loop f h n i₀ i = n - i
+
+pub section-names-ok-spec : {M : Type 1} → statement M
+section-names-ok-spec =
+    tie.close
+    (tie.spec
+    Inv-loop
+    μ-loop
+    (λ c. search (needs, all-loop))
+    (λ c. search (needs, all-loop))
+    (λ c. search (needs, all-loop))
+    (λ c. search (needs, all-loop))
+    (λ c. search (needs, all-loop))
+    (λ c. search (needs, all-loop))
+    (λ c. search (needs, all-loop))
+    (λ c. search (needs, all-loop)))

@@ -1,0 +1,11 @@
+use borrow.Author.Needs.{needs}
+use Rattle.checks.proofs.Laws.{first-checks}
+use Rattle.checks.proofs.size_ok.Statement.{statement}
+use Rattle.checks.proofs.size_ok.Tie as tie
+
+pub size-ok-spec : {M : Type 1} → statement M
+size-ok-spec =
+    tie.close
+    (tie.spec
+    (λ c. search (needs, first-checks))
+    (λ c. search (needs, first-checks)))
