@@ -64,6 +64,13 @@ sectionName f h i = sectionNameAt f h (sectionAt h i)
 abbrev pub symbolName : List ℕ → Header → ℕ → Name
 symbolName f h j = symbolNameAt f h (symbolAt h j)
 
+-- the bytes where it stands, whether they obey the rule or not: what names are compared by once 6 has passed
+abbrev pub sectionText : List ℕ → Header → ℕ → List ℕ
+sectionText f h i = nameBytes f (sectionRun f h (sectionAt h i))
+
+abbrev pub symbolText : List ℕ → Header → ℕ → List ℕ
+symbolText f h j = nameBytes f (symbolRun f h (symbolAt h j))
+
 -- 6 is not given for it
 abbrev pub isGood : Name → Bool
 isGood (Good at n) = true

@@ -19,6 +19,8 @@ ghost use Rattle.names.specs.Name.{
   symbolName,
   nameBytes,
   isGood,
+  sectionText,
+  symbolText,
 };
 
 // The bytes of a name field, and the string table's own length field, behind which strings stand.
@@ -153,4 +155,17 @@ pub fn is_good(name: Name) -> bool
         Name::Good(_, _) => true,
         Name::Bad => false,
     }
+}
+
+// The bytes where a section's name stands, and a symbol's, whether they obey the rule or not.
+pub fn section_text(f: &[u8], h: Header, i: u32) -> &[u8]
+    ensures { λ r. ⌜ now r ≡ sectionText (now (f .entry)) h i ⌝ }
+{
+    name_bytes(f, section_run(f, h, object::section_at(h, i)))
+}
+
+pub fn symbol_text(f: &[u8], h: Header, j: u32) -> &[u8]
+    ensures { λ r. ⌜ now r ≡ symbolText (now (f .entry)) h j ⌝ }
+{
+    name_bytes(f, symbol_run(f, h, object::symbol_at(h, j)))
 }

@@ -1,6 +1,6 @@
--- Recursion over the numbers below n: each of them passes a test; a sum over them; how many of them pass. Below each the laws of a loop that computes it.
+-- Recursion over the numbers below n: each of them passes a test; one of them does; a sum over them; how many of them pass. Below each the laws of a loop that computes it.
 use mathlib.Core.Path.{_≡_, refl, sym, ap, _∙_}
-use mathlib.Core.Bool.{Bool, true, false, _&&_, not, and-false}
+use mathlib.Core.Bool.{Bool, true, false, _&&_, _||_, not, and-false, or-true}
 use mathlib.Core.Logic.{⊎-elim}
 use Prim.Native.Nat.{ℕ, zero, suc, _+_, _-_, _*_, _≤_, _<_}
 use native.Mathlib.Nat.{not-suc-le-zero, le-of-suc-le-suc, eq-or-lt-of-le}
@@ -12,6 +12,10 @@ use Rattle.util.specs.Pick.{pick, and-left, and-right, and-both}
 unfoldable pub allTo : (ℕ → Bool) → ℕ → Bool
 allTo p zero = true
 allTo p (suc n) = allTo p n && p n
+
+unfoldable pub anyTo : (ℕ → Bool) → ℕ → Bool
+anyTo p zero = false
+anyTo p (suc n) = anyTo p n || p n
 
 unfoldable pub sumTo : (ℕ → ℕ) → ℕ → ℕ
 sumTo f zero = 0
@@ -62,6 +66,32 @@ module _ (p : ℕ → Bool) where
   all-end i n m a h k q = let z : i ≡ n = omega arith in cc
 
 pub ruleset all-loop = (all-none, all-out, all-again, all-end)
+
+-- ---- one of them
+module _ (p : ℕ → Bool) where
+  pub any-none : anyTo p 0 ≡ false
+  unfolding anyTo
+  any-none = refl
+
+  any-here : (i n : ℕ) → i < n → p i ≡ true → anyTo p n ≡ true
+  unfolding anyTo
+  any-here i zero h e = absurd (not-suc-le-zero h)
+  any-here i (suc n) h e =
+      ⊎-elim (λ q. ap (λ (b : Bool). anyTo p n || b) (ap p (sym q) ∙ e) ∙ or-true (anyTo p n))
+      (λ lt. ap (λ (b : Bool). b || p n) (any-here i n lt e))
+      (eq-or-lt-of-le (le-of-suc-le-suc h))
+
+  pub any-out : (i n m : ℕ) (r : Bool) → i < n → n ≡ m → r ≡ p i → r ≡ true → true ≡ anyTo p m
+  any-out i n m r h q e t = let z : p i ≡ true = cc in cc (any-here i n h z)
+
+  pub any-again : (i : ℕ) (r : Bool) → anyTo p i ≡ false → r ≡ p i → r ≡ false → anyTo p (i + 1) ≡ false
+  unfolding anyTo
+  any-again i r a e t = rw (add-one, a, ← e) t
+
+  pub any-end : (i n m : ℕ) → anyTo p i ≡ false → i ≤ n → n ≤ i → n ≡ m → false ≡ anyTo p m
+  any-end i n m a h k q = let z : i ≡ n = omega arith in cc
+
+pub ruleset any-loop = (any-none, any-out, any-again, any-end)
 
 -- ---- a sum
 module _ (f : ℕ → ℕ) where

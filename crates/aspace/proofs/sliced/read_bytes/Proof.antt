@@ -1,0 +1,17 @@
+use borrow.Author.Needs.{needs}
+use Rattle.aspace.proofs.Laws.{fars}
+use Rattle.aspace.proofs.sliced.read_bytes.Statement.{statement}
+use Rattle.aspace.proofs.sliced.read_bytes.Tie as tie
+
+pub read-bytes-spec : {M : Type 1} → statement M
+read-bytes-spec =
+    tie.close
+    (tie.spec
+    (λ c. search (needs, fars))
+    (λ c. search (needs, fars))
+    (λ c. search (needs, fars))
+    (λ c. search (needs, fars))
+    (λ c. search (needs, fars))
+    (λ c. search (needs, fars))
+    (λ c. search (needs, fars))
+    (λ c. search (needs, fars)))

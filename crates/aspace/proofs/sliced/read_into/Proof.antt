@@ -1,0 +1,16 @@
+use borrow.Author.Needs.{needs}
+use Rattle.aspace.proofs.Laws.{fars}
+use Rattle.aspace.proofs.sliced.read_into.Statement.{statement}
+use Rattle.aspace.proofs.sliced.read_into.Tie as tie
+
+pub read-into-spec : {M : Type 1} → statement M
+read-into-spec =
+    tie.close
+    (tie.spec
+    (λ c. search (needs, fars))
+    (λ c. search (needs, fars))
+    (λ c. search (needs, fars))
+    (λ c. search (needs, fars))
+    (λ c. search (needs, fars))
+    (λ c. search (needs, fars))
+    (λ c. search (needs, fars)))

@@ -1,0 +1,4 @@
+pub mod Marks
+pub mod Pages
+pub mod MarkLaws
+pub mod PageLaws
