@@ -1,0 +1,34 @@
+use borrow.Author.Needs.{needs}
+use Rattle.externs.proofs.Laws.{externs-loop}
+use Prim.Native.Nat.{_+_, _-_, _*_, _≤_, _<_}
+use mathlib.Core.Path.{_≡_}
+use lib.ListN.{length, drop}
+use Rattle.externs.specs.Externs.{externsTo}
+use Rattle.externs.specs.Held.{held}
+use Rattle.externs.proofs.fill.Statement.{statement}
+use Rattle.externs.proofs.fill.Tie as tie
+
+abbrev Inv-loop : tie.InvT-loop
+Inv-loop f h map set₀ m count₀ i₀ set count i = (i ≤ m) × (count ≤ 1024) × (1024 < length set) × (length set ≡ length set₀) × (held count set ≡ externsTo f h map i)
+
+abbrev μ-loop : tie.MeasureT-loop
+μ-loop f h map set₀ m count₀ i₀ set count i = m - i
+
+pub fill-spec : {M : Type 1} → statement M
+fill-spec =
+    tie.close
+    (tie.spec
+    Inv-loop
+    μ-loop
+    (λ c. search (needs, externs-loop))
+    (λ c. search (needs, externs-loop))
+    (λ c. search (needs, externs-loop))
+    (λ c. search (needs, externs-loop))
+    (λ c. search (needs, externs-loop))
+    (λ c. search (needs, externs-loop))
+    (λ c. search (needs, externs-loop))
+    (λ c. search (needs, externs-loop))
+    (λ c. search (needs, externs-loop))
+    (λ c. search (needs, externs-loop))
+    (λ c. search (needs, externs-loop))
+    (λ c. search (needs, externs-loop)))

@@ -1,0 +1,55 @@
+-- The extern list: symbol numbers in the order of their names, each name once, with the lowest number that put it there (01, "Layout, slots and fixups").
+use mathlib.Core.Bool.{Bool}
+use mathlib.Core.List.{List, [], _∷_}
+use mathlib.Core.Path.{_≡_}
+use Prim.Native.Nat.{ℕ, zero, suc, _+_, _≤_, _<_, min}
+use lib.ListN.{length, take}
+use Rattle.util.specs.Pick.{pick}
+use Rattle.object.specs.declared.Header.{Header}
+use Rattle.object.specs.Section.{relocationCount}
+use Rattle.object.specs.Symbol.{primaries}
+use Rattle.object.specs.Relocation.{relocationSymbol}
+use Rattle.names.specs.declared.Order.{Order}
+use Rattle.names.specs.declared.Order.the-variants.{Less, Equal, Greater}
+use Rattle.names.specs.Bytes.{compareBytes}
+use Rattle.names.specs.Name.{symbolText}
+use Rattle.externs.specs.declared.Names.{Names}
+use Rattle.externs.specs.declared.Names.the-variants.{TooMany, Count}
+use Rattle.externs.specs.Puts.{puts}
+
+-- the order of two symbols' names
+abbrev pub orderOf : List ℕ → Header → ℕ → ℕ → Order
+orderOf f h j x = compareBytes (symbolText f h j) (symbolText f h x)
+
+abbrev pub byOrder : Order → List ℕ → List ℕ → List ℕ → List ℕ
+byOrder Less a b c = a
+byOrder Equal a b c = b
+byOrder Greater a b c = c
+
+-- j goes before the first name that is not smaller; a name that is there keeps the lower number
+unfoldable pub insertName : List ℕ → Header → ℕ → List ℕ → List ℕ
+insertName f h j [] = j ∷ []
+insertName f h j (x ∷ xs) = byOrder (orderOf f h j x) (j ∷ x ∷ xs) (min j x ∷ xs) (x ∷ insertName f h j xs)
+
+-- the list after the first k records of section i, which found xs
+unfoldable pub externRecords : List ℕ → Header → List ℕ → ℕ → List ℕ → ℕ → List ℕ
+externRecords f h map i xs zero = xs
+externRecords f h map i xs (suc k) =
+    pick (puts f h map i k) (insertName f h (relocationSymbol f h i k) (externRecords f h map i xs k)) (externRecords f h map i xs k)
+
+-- after the first i sections: the relocations of all sections, loaded or not, in section and record order
+unfoldable pub externsTo : List ℕ → Header → List ℕ → ℕ → List ℕ
+externsTo f h map zero = []
+externsTo f h map (suc i) = externRecords f h map i (externsTo f h map i) (relocationCount f h i)
+
+abbrev pub externsBy : List ℕ → Header → List ℕ → List ℕ
+externsBy f h map = externsTo f h map (h .sections)
+
+-- the extern list of a file
+abbrev pub externs : List ℕ → Header → List ℕ
+externs f h = externsBy f h (primaries f h (h .symbols))
+
+-- what a buffer that holds at most 1,024 numbers says of the list: too many, or its first n are the list
+unfoldable pub Holds : List ℕ → List ℕ → Names → Type 0
+Holds ys set TooMany = 1024 < length ys
+Holds ys set (Count n) = (n ≤ 1024) × (take n set ≡ ys)
