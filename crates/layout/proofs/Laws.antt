@@ -14,10 +14,12 @@ use Rattle.util.specs.Prefix.{countTo}
 use Rattle.le.specs.Le.{splice, splice-next}
 use Rattle.object.specs.declared.Header.{Header}
 use Rattle.object.specs.Section.{loaded, fileStart, rangeLength}
+use Rattle.names.specs.Bytes.{sameBytes}
+use Rattle.names.specs.Name.{sectionText}
 use Rattle.layout.specs.declared.Home.{Home}
 use Rattle.layout.specs.declared.Home.the-variants.{At, Undef, Nowhere}
 use Rattle.layout.specs.Layout.{nextStart, startAt, undefStart, recordOf, tableRecords}
-use Rattle.layout.specs.Home.{isHome, homeIn, homeOf, homeCell, homesTo}
+use Rattle.layout.specs.Home.{firstIn, isHome, isNamed, homeOf, homeCell, homesTo}
 
 -- ---- one section further
 pub next-is : (at n r : ℕ) → at < 2 ^ 60 → n < 2 ^ 33 → r ≡ roundUp (at + n) 4096 % 2 ^ 64 → r ≡ roundUp (at + n) 4096
@@ -72,32 +74,38 @@ module _ (f : List ℕ) (h : Header) where
     pub record-end : (n : ℕ) → c ≡ recordOf f h i → i ≤ n → n ≤ i → n ≡ h .sections → c + 1 ≡ tableRecords f h
     record-end n e a b q = let z : i ≡ h .sections = omega arith in rw (← z, ← e)
 
-  -- ---- homes: what is left of the search is the answer
-  module _ (s j n : ℕ) where
+  -- ---- the first record that passes a test: what is left of the search is the answer
+  module _ (p : ℕ → Bool) (u : Bool) (j n : ℕ) where
     left : j < n → n - j ≡ suc (n - (j + 1))
     left k = omega arith
 
-    pub home-here : (at : ℕ) (t : Bool) (x : Home) → j < n → at ≡ startAt f h j → t ≡ isHome f h s j → t ≡ true → homeIn f h s j (n - j) ≡ x → at + 1 ≡ homeCell f h x
-    unfolding homeIn homeCell pick
-    home-here at t x k a q e p = rw (← p, left k, ← q, e, a)
+    pub first-here : (at : ℕ) (t : Bool) (x : Home) → j < n → at ≡ startAt f h j → t ≡ p j → t ≡ true → firstIn p u j (n - j) ≡ x → at + 1 ≡ homeCell f h x
+    unfolding firstIn homeCell pick
+    first-here at t x k a q e d = rw (← d, left k, ← q, e, a)
 
-    pub home-other : (t : Bool) (x : Home) → j < n → t ≡ isHome f h s j → t ≡ false → homeIn f h s j (n - j) ≡ x → homeIn f h s (j + 1) (n - (j + 1)) ≡ x
-    unfolding homeIn pick
-    home-other t x k q e p = rw (left k, ← q, e) at p
+    pub first-other : (t : Bool) (x : Home) → j < n → t ≡ p j → t ≡ false → firstIn p u j (n - j) ≡ x → firstIn p u (j + 1) (n - (j + 1)) ≡ x
+    unfolding firstIn pick
+    first-other t x k q e d = rw (left k, ← q, e) at d
 
-    pub home-undef : (at : ℕ) (x : Home) → n ≤ j → j ≤ n → n ≡ h .sections → at ≡ startAt f h j → s ≡ 0 → homeIn f h s j (n - j) ≡ x → at + 1 ≡ homeCell f h x
-    unfolding homeIn homeCell pick
-    home-undef at x k k2 m a z p =
-        let d : n - j ≡ 0 = omega arith in
+    pub first-undef : (at : ℕ) (x : Home) → n ≤ j → j ≤ n → n ≡ h .sections → at ≡ startAt f h j → u ≡ true → firstIn p u j (n - j) ≡ x → at + 1 ≡ homeCell f h x
+    unfolding firstIn homeCell pick
+    first-undef at x k k2 m a z d =
+        let e : n - j ≡ 0 = omega arith in
         let w : j ≡ h .sections = omega arith in
-        rw (← p, d, z, a, w)
+        rw (← d, e, z, a, w)
 
-    pub home-none : (x : Home) → n ≤ j → (s ≡ 0 → ⊥) → homeIn f h s j (n - j) ≡ x → 0 ≡ homeCell f h x
-    unfolding homeIn homeCell pick
-    home-none x k z p = let d : n - j ≡ 0 = omega arith in rw (← p, d, ne-eqb s 0 z)
+    pub first-none : (x : Home) → n ≤ j → u ≡ false → firstIn p u j (n - j) ≡ x → 0 ≡ homeCell f h x
+    unfolding firstIn homeCell pick
+    first-none x k z d = let e : n - j ≡ 0 = omega arith in rw (← d, e, z)
 
-  pub home-begin : (s n : ℕ) → n ≡ h .sections → homeIn f h s 0 (n - 0) ≡ homeIn f h s 0 (h .sections)
-  home-begin s n e = let d : n - 0 ≡ h .sections = omega arith in rw d
+    pub first-undef-by : (at : ℕ) (r : Bool) (x : Home) → n ≤ j → j ≤ n → n ≡ h .sections → at ≡ startAt f h j → r ≡ u → r ≡ true → firstIn p u j (n - j) ≡ x → at + 1 ≡ homeCell f h x
+    first-undef-by at r x k k2 m a q z d = first-undef at x k k2 m a (sym q ∙ z) d
+
+    pub first-none-by : (r : Bool) (x : Home) → n ≤ j → r ≡ u → r ≡ false → firstIn p u j (n - j) ≡ x → 0 ≡ homeCell f h x
+    first-none-by r x k q z d = first-none x k (sym q ∙ z) d
+
+  pub first-begin : (p : ℕ → Bool) (u : Bool) (n : ℕ) → n ≡ h .sections → firstIn p u 0 (n - 0) ≡ firstIn p u 0 (h .sections)
+  first-begin p u n e = let d : n - 0 ≡ h .sections = omega arith in rw d
 
   -- ---- all homes
   length-homes : (n : ℕ) → length (homesTo f h n) ≡ n
@@ -125,12 +133,21 @@ module _ (f : List ℕ) (h : Header) (s j : ℕ) (l : Bool) where
   unfolding isHome
   is-home-unloaded q t = rw (← q, t)
 
-pub ruleset next-ways = (next-loaded, next-unloaded, is-home-loaded, is-home-unloaded)
+module _ (f : List ℕ) (h : Header) (name : List ℕ) (j : ℕ) (l : Bool) where
+  pub is-named-loaded : (s : List ℕ) (r : Bool) → l ≡ loaded f h j → l ≡ true → s ≡ sectionText f h j → r ≡ sameBytes s name → r ≡ isNamed f h name j
+  unfolding isNamed
+  is-named-loaded s r q t e p = rw (← q, t, ← e) p
+
+  pub is-named-unloaded : l ≡ loaded f h j → l ≡ false → false ≡ isNamed f h name j
+  unfolding isNamed
+  is-named-unloaded q t = rw (← q, t)
+
+pub ruleset next-ways = (next-loaded, next-unloaded, is-home-loaded, is-home-unloaded, is-named-loaded, is-named-unloaded)
 
 pub ruleset start-loop = (start-none, start-again, start-end)
 
 pub ruleset record-loop = (record-none, record-loaded, record-unloaded, record-end)
 
-pub ruleset home-loop = (start-none, start-again, home-begin, home-here, home-other, home-undef, home-none)
+pub ruleset first-loop = (start-none, start-again, first-begin, first-here, first-other, first-undef, first-none, first-undef-by, first-none-by)
 
 pub ruleset homes-loop = (homes-none, homes-again, homes-end)

@@ -6,22 +6,35 @@ use lib.Dec.{eqb}
 use Rattle.util.specs.Pick.{pick}
 use Rattle.object.specs.declared.Header.{Header}
 use Rattle.object.specs.Section.{loaded, fileStart}
+use Rattle.names.specs.Bytes.{sameBytes, UNDEF}
+use Rattle.names.specs.Name.{sectionText}
 use Rattle.layout.specs.declared.Home.{Home}
 use Rattle.layout.specs.declared.Home.the-variants.{At, Undef, Nowhere}
 use Rattle.layout.specs.Layout.{startAt, undefStart, recordOf}
+
+-- of the n sections from j, the first that passes the test; behind the last stands UNDEF, which passes by `undef`
+unfoldable pub firstIn : (ℕ → Bool) → Bool → ℕ → ℕ → Home
+firstIn p undef j zero = pick undef Undef Nowhere
+firstIn p undef j (suc n) = pick (p j) (At j) (firstIn p undef (j + 1) n)
 
 module _ (f : List ℕ) (h : Header) where
   -- section j is loaded and starts at s in the file
   unfoldable pub isHome : ℕ → ℕ → Bool
   isHome s j = loaded f h j && eqb (fileStart f h j) s
 
-  -- of the n sections from j, the first such one; behind the last stands UNDEF
-  unfoldable pub homeIn : ℕ → ℕ → ℕ → Home
-  homeIn s j zero = pick (eqb s 0) Undef Nowhere
-  homeIn s j (suc n) = pick (isHome s j) (At j) (homeIn s (j + 1) n)
+  -- the first table record that starts at s, and section i's home
+  abbrev pub homeAt : ℕ → Home
+  homeAt s = firstIn (isHome s) (eqb s 0) 0 (h .sections)
 
   abbrev pub homeOf : ℕ → Home
-  homeOf i = homeIn (fileStart f h i) 0 (h .sections)
+  homeOf i = homeAt (fileStart f h i)
+
+  -- section j is loaded and has that name; the first table record of that name, "UNDEF" too
+  unfoldable pub isNamed : List ℕ → ℕ → Bool
+  isNamed name j = loaded f h j && sameBytes (sectionText f h j) name
+
+  abbrev pub namedRecord : List ℕ → Home
+  namedRecord name = firstIn (isNamed name) (sameBytes name UNDEF) 0 (h .sections)
 
   -- a home's start, and its record in the table
   unfoldable pub homeStart : Home → ℕ

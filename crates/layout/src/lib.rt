@@ -5,7 +5,7 @@ ghost use mathlib.Core.Path.{_≡_};
 ghost use Prim.Native.Nat.{_+_, _≤_, _^_, _<_};
 ghost use Rattle.le.specs.Le.{splice};
 ghost use Rattle.layout.specs.Layout.{nextStart, undefStart, mappedPages, tableRecords};
-ghost use Rattle.layout.specs.Home.{isHome, homeIn, homeOf, homeCell, homesTo};
+ghost use Rattle.layout.specs.Home.{isHome, isNamed, homeAt, homeOf, namedRecord, homeCell, homesTo};
 
 // A section's home: the record of a loaded section, by that section's number from 0; UNDEF's; or none.
 pub enum Home {
@@ -80,7 +80,7 @@ fn is_home(f: &[u8], h: Header, s: u32, j: u32) -> bool
 
 // Of the first table record that starts at `s` in the file: its start and one, or 0 where there is none.
 fn cell_of_start(f: &[u8], h: Header, s: u32) -> u64
-    ensures { λ r. ⌜ r ≡ homeCell (now (f .entry)) h (homeIn (now (f .entry)) h s 0 (h .sections)) ⌝ }
+    ensures { λ r. ⌜ r ≡ homeCell (now (f .entry)) h (homeAt (now (f .entry)) h s) ⌝ }
 {
     let n = h.sections as u32;
     let mut at: u64 = 0;
@@ -92,7 +92,8 @@ fn cell_of_start(f: &[u8], h: Header, s: u32) -> u64
         at = next_start(f, h, j, at);
         j += 1;
     }
-    if s == 0 { at + 1 } else { 0 }
+    let undef = s == 0;
+    if undef { at + 1 } else { 0 }
 }
 
 // The home of section i: its start and one, or 0 where it has none.
@@ -100,6 +101,34 @@ pub fn home_cell(f: &[u8], h: Header, i: u32) -> u64
     ensures { λ r. ⌜ r ≡ homeCell (now (f .entry)) h (homeOf (now (f .entry)) h i) ⌝ }
 {
     cell_of_start(f, h, object::file_start(f, h, i))
+}
+
+// Whether section j is loaded and has that name.
+fn is_named(f: &[u8], h: Header, name: &[u8], j: u32) -> bool
+    ensures { λ r. ⌜ r ≡ isNamed (now (f .entry)) h (now (name .entry)) j ⌝ }
+{
+    if object::is_loaded(f, h, j) {
+        names::same(names::section_text(f, h, j), name)
+    } else {
+        false
+    }
+}
+
+// Of the first table record of that name, "UNDEF" too: its start and one, or 0 where there is none.
+pub fn named_cell(f: &[u8], h: Header, name: &[u8]) -> u64
+    ensures { λ r. ⌜ r ≡ homeCell (now (f .entry)) h (namedRecord (now (f .entry)) h (now (name .entry))) ⌝ }
+{
+    let n = h.sections as u32;
+    let mut at: u64 = 0;
+    let mut j: u32 = 0;
+    while j < n {
+        if is_named(f, h, name, j) {
+            return at + 1;
+        }
+        at = next_start(f, h, j, at);
+        j += 1;
+    }
+    if names::is_undef(name) { at + 1 } else { 0 }
 }
 
 // The homes of all sections, a word each.

@@ -1,15 +1,17 @@
 use borrow.Author.Needs.{needs}
-use Rattle.layout.proofs.Laws.{home-loop, start-loop}
+use Rattle.layout.proofs.Laws.{first-loop, start-loop}
 use Prim.Native.Nat.{_+_, _-_, _*_, _≤_}
 use mathlib.Core.Path.{_≡_}
 use native.Mathlib.Omega.{arith}
 use Rattle.layout.specs.Layout.{startAt}
-use Rattle.layout.specs.Home.{homeIn}
+use Rattle.layout.specs.Home.{firstIn, isHome, isNamed}
+use lib.Dec.{eqb}
+use Rattle.names.specs.Bytes.{sameBytes, UNDEF}
 use Rattle.layout.proofs.cell_of_start.Statement.{statement}
 use Rattle.layout.proofs.cell_of_start.Tie as tie
 
 abbrev Inv-loop : tie.InvT-loop
-Inv-loop f h s n at₀ j₀ at j = (j ≤ n) × (at ≤ 17179869184 * j) × (at ≡ startAt f h j) × (homeIn f h s j (n - j) ≡ homeIn f h s 0 (h .sections))
+Inv-loop f h s n at₀ j₀ at j = (j ≤ n) × (at ≤ 17179869184 * j) × (at ≡ startAt f h j) × (firstIn (isHome f h s) (eqb s 0) j (n - j) ≡ firstIn (isHome f h s) (eqb s 0) 0 (h .sections))
 
 abbrev μ-loop : tie.MeasureT-loop
 μ-loop f h s n at₀ j₀ at j = n - j
@@ -20,15 +22,15 @@ cell-of-start-spec =
     (tie.spec
     Inv-loop
     μ-loop
-    (λ c. search (needs, home-loop, start-loop))
-    (λ c. search (needs, home-loop, start-loop))
-    (λ c. search (needs, home-loop, start-loop))
-    (λ c. search (needs, home-loop, start-loop))
-    (λ c. search (needs, home-loop, start-loop))
-    (λ c. search (needs, home-loop, start-loop))
-    (λ c. search (needs, home-loop, start-loop))
-    (λ c. search (needs, home-loop, start-loop))
-    (λ c. (search needs, omega arith, search (needs, start-loop), search (needs, home-loop)))
-    (λ c. search (needs, home-loop, start-loop))
-    (λ c. search (needs, home-loop, start-loop))
-    (λ c. search (needs, home-loop, start-loop)))
+    (λ c. search (needs, first-loop, start-loop))
+    (λ c. search (needs, first-loop, start-loop))
+    (λ c. search (needs, first-loop, start-loop))
+    (λ c. search (needs, first-loop, start-loop))
+    (λ c. search (needs, first-loop, start-loop))
+    (λ c. search (needs, first-loop, start-loop))
+    (λ c. search (needs, first-loop, start-loop))
+    (λ c. search (needs, first-loop, start-loop))
+    (λ c. (search needs, omega arith, search (needs, start-loop), search (needs, first-loop)))
+    (λ c. search (needs, first-loop, start-loop))
+    (λ c. search (needs, first-loop, start-loop))
+    (λ c. search (needs, first-loop, start-loop)))

@@ -1,0 +1,37 @@
+use borrow.Author.Needs.{needs}
+use Rattle.layout.proofs.Laws.{first-loop, start-loop}
+use Prim.Native.Nat.{_+_, _-_, _*_, _≤_}
+use mathlib.Core.Path.{_≡_}
+use native.Mathlib.Omega.{arith}
+use Rattle.layout.specs.Layout.{startAt}
+use Rattle.layout.specs.Home.{firstIn, isHome, isNamed}
+use lib.Dec.{eqb}
+use Rattle.names.specs.Bytes.{sameBytes, UNDEF}
+use Rattle.layout.proofs.named_cell.Statement.{statement}
+use Rattle.layout.proofs.named_cell.Tie as tie
+
+abbrev Inv-loop : tie.InvT-loop
+Inv-loop f h name n at₀ j₀ at j = (j ≤ n) × (at ≤ 17179869184 * j) × (at ≡ startAt f h j) × (firstIn (isNamed f h name) (sameBytes name UNDEF) j (n - j) ≡ firstIn (isNamed f h name) (sameBytes name UNDEF) 0 (h .sections))
+
+abbrev μ-loop : tie.MeasureT-loop
+μ-loop f h name n at₀ j₀ at j = n - j
+
+pub named-cell-spec : {M : Type 1} → statement M
+named-cell-spec =
+    tie.close
+    (tie.spec
+    Inv-loop
+    μ-loop
+    (λ c. search (needs, first-loop, start-loop))
+    (λ c. search (needs, first-loop, start-loop))
+    (λ c. search (needs, first-loop, start-loop))
+    (λ c. search (needs, first-loop, start-loop))
+    (λ c. search (needs, first-loop, start-loop))
+    (λ c. search (needs, first-loop, start-loop))
+    (λ c. search (needs, first-loop, start-loop))
+    (λ c. search (needs, first-loop, start-loop))
+    (λ c. (search needs, omega arith, search (needs, start-loop), search (needs, first-loop)))
+    (λ c. search (needs, first-loop, start-loop))
+    (λ c. search (needs, first-loop, start-loop))
+    (λ c. search (needs, first-loop, start-loop))
+    (λ c. search (needs, first-loop, start-loop)))
