@@ -1,0 +1,55 @@
+-- What becomes of relocation k of section i: passed, skipped for a reason, refused by 10, or a fixup (01, "Layout, slots and fixups").
+use mathlib.Core.Bool.{Bool, true, false}
+use mathlib.Core.List.{List}
+use Prim.Native.Nat.{ℕ, _+_, _-_}
+use lib.Dec.{eqb, leb}
+use lib.ListN.{getD}
+use Rattle.util.specs.Pick.{pick}
+use Rattle.arch.specs.declared.Arch.{Arch}
+use Rattle.object.specs.declared.Header.{Header}
+use Rattle.object.specs.declared.RelocationKind.{RelocationKind}
+use Rattle.object.specs.declared.RelocationKind.the-variants.{Absolute, ImageOffset, SectionOffset, Relative, NotCarried, Unknown}
+use Rattle.object.specs.declared.RelocationType.{RelocationType}
+use Rattle.object.specs.Relocation.{relocationAddress, relocationSymbol, relocationType, typeOf}
+use Rattle.externs.specs.Puts.{isOwn}
+use Rattle.fixups.specs.declared.Target.{Target}
+use Rattle.fixups.specs.declared.Target.the-variants.{Home, Named, Slot, Missing, Refused}
+use Rattle.fixups.specs.declared.Fix.{Fix}
+use Rattle.fixups.specs.declared.Outcome.{Outcome}
+use Rattle.fixups.specs.declared.Outcome.the-variants.{Passed, Skipped, TurnedDown, Fixup}
+use Rattle.fixups.specs.Target.{targetOf, NO-SYMBOL, NO-TYPE}
+
+-- with the place and the target known, the type decides: an unknown one is skipped, one that is not carried refused
+abbrev pub carried : RelocationKind → ℕ
+carried Absolute = 0
+carried ImageOffset = 0
+carried SectionOffset = 0
+carried Relative = 0
+carried NotCarried = 1
+carried Unknown = 2
+
+unfoldable pub fixAt : RelocationType → ℕ → ℕ → Outcome
+fixAt t place target =
+    pick (eqb (carried (t .kind)) 2) (Skipped NO-TYPE)
+    (pick (eqb (carried (t .kind)) 1) TurnedDown
+    (Fixup (record { place = place; bits = t .bits; kind = t .kind; target = target; addend = t .addend })))
+
+-- a target that is refused, whatever the type; one that is missing, whatever the type; else the type decides
+unfoldable pub resolved : Target → RelocationType → ℕ → Outcome
+resolved (Home o) t place = fixAt t place o
+resolved (Named o) t place = fixAt t place o
+resolved (Slot o) t place = fixAt t place o
+resolved (Missing k) t place = Skipped k
+resolved Refused t place = TurnedDown
+
+module _ (arch : Arch) (f : List ℕ) (h : Header) (map homes : List ℕ) (undef : ℕ) (set : List ℕ) where
+  -- the symbol of relocation (i, k): no record of that number is K1, an auxiliary record is refused
+  unfoldable pub bySymbol : ℕ → RelocationType → ℕ → Outcome
+  bySymbol j t place =
+      pick (leb (h .symbols) j) (Skipped NO-SYMBOL) (pick (isOwn map j) (resolved (targetOf f h homes undef set j) t place) TurnedDown)
+
+  -- relocations of a section without a home are passed; the place is the home's start and the address field
+  unfoldable pub outcome : ℕ → ℕ → Outcome
+  outcome i k =
+      pick (eqb (getD homes i 0) 0) Passed
+      (bySymbol (relocationSymbol f h i k) (typeOf arch (relocationType f h i k)) (getD homes i 0 - 1 + relocationAddress f h i k))
