@@ -35,7 +35,7 @@ use Rattle.names.specs.declared.Order.the-variants.{Less, Equal, Greater}
 use Rattle.names.specs.Name.{symbolText}
 use Rattle.externs.specs.Puts.{sectionNamed, outside, missing, isCommon, putsBy, putsName, isOwn, puts}
 use Rattle.externs.specs.Externs.{orderOf, insertName, externRecords, externsTo, Holds}
-use Rattle.externs.specs.ExternLaws.{records-grow, sections-grow}
+use Rattle.externs.specs.ExternLaws.{records-grow, sections-grow, over-length, count-room, count-list}
 use Rattle.externs.specs.Held.{held, putAt, lowerAt, Placed, Inserted}
 use Rattle.externs.specs.Slot.{isNamed, slotFrom, slotOf}
 use Rattle.externs.specs.declared.Names.{Names}
@@ -275,18 +275,9 @@ module _ (ys l : List ℕ) where
   unfolding Holds held
   holds-count n k e = (k, e)
 
-  module _ (r : Names) (q : Holds ys l r) where
-    pub over-length : r ≡ TooMany → 1024 < length ys
-    unfolding Holds
-    over-length e = rw e at q
-
-    pub count-room : (n : ℕ) → r ≡ Count n → n ≤ 1024
-    unfolding Holds
-    count-room n e = (rw e at q) .0
-
-    pub count-list : (n : ℕ) → r ≡ Count n → held n l ≡ ys
-    unfolding Holds held
-    count-list n e = (rw e at q) .1
+  held-list : (r : Names) (n : ℕ) → Holds ys l r → r ≡ Count n → held n l ≡ ys
+  unfolding held
+  held-list r n q e = count-list ys l r q n e
 
 -- ---- the relocations of a section
 module _ (f : List ℕ) (h : Header) (map : List ℕ) (i : ℕ) (xs : List ℕ) where
@@ -335,7 +326,7 @@ module _ (f : List ℕ) (h : Header) (map : List ℕ) where
   module _ (i n : ℕ) (l a : List ℕ) (r : Names) where
     pub externs-more : (c : ℕ) → held n l ≡ externsTo f h map i → Holds (externRecords f h map i (held n l) (relocationCount f h i)) a r → r ≡ Count c
         → held c a ≡ externsTo f h map (i + 1)
-    externs-more c q y e = count-list (externRecords f h map i (held n l) (relocationCount f h i)) a r y c e ∙ sym (externs-suc i n l q)
+    externs-more c q y e = held-list (externRecords f h map i (held n l) (relocationCount f h i)) a r c y e ∙ sym (externs-suc i n l q)
 
     pub externs-over : (m t : ℕ) (b : List ℕ) → i < m → m ≡ t → held n l ≡ externsTo f h map i
         → Holds (externRecords f h map i (held n l) (relocationCount f h i)) a r → r ≡ TooMany → Holds (externsTo f h map t) b TooMany

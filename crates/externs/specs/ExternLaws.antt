@@ -6,7 +6,8 @@ use mathlib.Core.Logic.{_⊎_, inl, inr, ⊎-elim}
 use Prim.Native.Nat.{ℕ, zero, suc, _≤_, _<_}
 use native.Mathlib.Nat.{not-suc-le-zero, le-refl, le-trans, le-of-suc-le-suc, eq-or-lt-of-le}
 use native.Mathlib.Omega.{arith}
-use lib.ListN.{length, getD}
+use lib.ListN.{length, getD, take}
+use lib.Seq.{length-take-le}
 use Rattle.util.specs.Pick.{pick}
 use Rattle.object.specs.declared.Header.{Header}
 use Rattle.object.specs.Section.{relocationCount}
@@ -16,7 +17,9 @@ use Rattle.names.specs.declared.Order.the-variants.{Less, Equal, Greater}
 use Rattle.names.specs.Name.{symbolText}
 use Rattle.externs.specs.Order.{three-ways, order-same, order-equal, order-opposite, opposite}
 use Rattle.externs.specs.Puts.{puts}
-use Rattle.externs.specs.Externs.{orderOf, insertName, externRecords, externsTo, externsBy}
+use Rattle.externs.specs.Externs.{orderOf, insertName, externRecords, externsTo, externsBy, Holds}
+use Rattle.externs.specs.declared.Names.{Names}
+use Rattle.externs.specs.declared.Names.the-variants.{TooMany, Count}
 use Rattle.externs.specs.declared.Found.the-variants.{At}
 use Rattle.externs.specs.Slot.{slotOf}
 use Rattle.externs.specs.SlotLaws.{Slot, slot-of-entry}
@@ -202,3 +205,26 @@ module _ (f : List ℕ) (h : Header) (map : List ℕ) where
       let s = slot-of-entry f h (symbolText f h (getD (externsBy f h map) e 0)) (externsBy f h map) e p refl in
       let z : e ≡ s .index = externs-once e (s .index) p (s .inside) (rw (s .named) (order-same (symbolText f h (getD (externsBy f h map) e 0)))) in
       s .found ∙ ap At (sym z)
+
+-- ---- what the answer of `collect` says of the list ys and the buffer
+module _ (ys set : List ℕ) (r : Names) (q : Holds ys set r) where
+  pub over-length : r ≡ TooMany → 1024 < length ys
+  unfolding Holds
+  over-length e = rw e at q
+
+  pub count-room : (n : ℕ) → r ≡ Count n → n ≤ 1024
+  unfolding Holds
+  count-room n e = (rw e at q) .0
+
+  -- so they are a part of the buffer
+  pub count-fits : (n : ℕ) → r ≡ Count n → length set ≡ 1025 → n ≤ length set
+  count-fits n e q = let k : n ≤ 1024 = count-room n e in omega arith
+
+  pub count-taken : (n : ℕ) → r ≡ Count n → length set ≡ 1025 → length (take n set) ≡ n
+  count-taken n e q = length-take-le n set (count-fits n e q)
+
+  pub count-list : (n : ℕ) → r ≡ Count n → take n set ≡ ys
+  unfolding Holds
+  count-list n e = (rw e at q) .1
+
+pub ruleset holds = (over-length, count-room, count-fits, count-taken, count-list)

@@ -245,8 +245,10 @@ fn fill(f: &[u8], h: Header, map: &[u8], set: &mut [u32]) -> Names
 }
 
 // The names of all relocations, into `set`; the answer says how many of its first numbers are the list.
+// The length is said again for a caller, who knows no more of a lent array than this.
 pub fn collect(f: &[u8], h: Header, map: &[u8], set: &mut [u32; 1025]) -> Names
     ensures { λ r. ⌜ Holds (externsBy (now (f .entry)) h (now (map .entry))) (now (set .exit)) r ⌝ }
+    ensures { λ r. ⌜ length (now (set .exit)) ≡ 1025 ⌝ }
 {
     fill(f, h, map, set)
 }
