@@ -15,7 +15,8 @@ use Rattle.object.specs.Relocation.{relocationSymbol}
 use Rattle.names.specs.declared.Order.{Order}
 use Rattle.names.specs.declared.Order.the-variants.{Less, Equal, Greater}
 use Rattle.names.specs.Name.{symbolText}
-use Rattle.externs.specs.Order.{three-ways, order-same, order-equal, order-opposite, opposite}
+use Rattle.util.specs.Pick.{three-ways}
+use Rattle.names.specs.OrderLaws.{compare-self, equal-same, compare-turned, turned}
 use Rattle.externs.specs.Puts.{puts}
 use Rattle.externs.specs.Externs.{orderOf, insertName, externRecords, externsTo, externsBy, Holds}
 use Rattle.externs.specs.declared.Names.{Names}
@@ -160,7 +161,7 @@ module _ (f : List ℕ) (h : Header) (map : List ℕ) where
       let a = symbolText f h (getD (externsBy f h map) i 0) in
       let b = symbolText f h (getD (externsBy f h map) j 0) in
       ⊎-elim (λ k. cc (externs-sorted i j k q))
-      (⊎-elim (λ k. k) (λ k. cc (externs-sorted j i k p, order-opposite a b ∙ ap opposite e)))
+      (⊎-elim (λ k. k) (λ k. cc (externs-sorted j i k p, compare-turned a b ∙ ap turned e)))
       (three-ways i j)
 
   -- every name that a relocation puts is there
@@ -172,7 +173,7 @@ module _ (f : List ℕ) (h : Header) (map : List ℕ) where
       record {
         index = r .index;
         inside = r .inside;
-        named = rw (r .is, s .named) (order-same (symbolText f h (relocationSymbol f h i k)));
+        named = rw (r .is, s .named) (compare-self (symbolText f h (relocationSymbol f h i k)));
       }
 
   -- every entry is the symbol of a relocation that puts its name
@@ -187,8 +188,8 @@ module _ (f : List ℕ) (h : Header) (map : List ℕ) where
       let r = index-of (s .entry) (externsBy f h map) (s .is) in
       let j = relocationSymbol f h i k in
       let n : symbolText f h (getD (externsBy f h map) e 0) ≡ symbolText f h (getD (externsBy f h map) (r .index) 0) =
-      order-equal (symbolText f h (getD (externsBy f h map) e 0)) (symbolText f h j) o ∙ sym (s .named) ∙ ap (symbolText f h) (sym (r .is)) in
-      let m : e ≡ r .index = externs-once e (r .index) p (r .inside) (rw n (order-same (symbolText f h (getD (externsBy f h map) (r .index) 0)))) in
+      equal-same (symbolText f h (getD (externsBy f h map) e 0)) (symbolText f h j) o ∙ sym (s .named) ∙ ap (symbolText f h) (sym (r .is)) in
+      let m : e ≡ r .index = externs-once e (r .index) p (r .inside) (rw n (compare-self (symbolText f h (getD (externsBy f h map) (r .index) 0)))) in
       rw (m, r .is) (s .lowest)
 
   -- a relocation that puts its name finds its slot
@@ -197,13 +198,13 @@ module _ (f : List ℕ) (h : Header) (map : List ℕ) where
   externs-slot i k p q t =
       let r = externs-all i k p q t in
       slot-of-entry f h (symbolText f h (relocationSymbol f h i k)) (externsBy f h map) (r .index) (r .inside)
-      (order-equal (symbolText f h (getD (externsBy f h map) (r .index) 0)) (symbolText f h (relocationSymbol f h i k)) (r .named))
+      (equal-same (symbolText f h (getD (externsBy f h map) (r .index) 0)) (symbolText f h (relocationSymbol f h i k)) (r .named))
 
   -- each entry's own name has its index for a slot
   pub externs-own : (e : ℕ) → e < length (externsBy f h map) → slotOf f h (externsBy f h map) (symbolText f h (getD (externsBy f h map) e 0)) ≡ At e
   externs-own e p =
       let s = slot-of-entry f h (symbolText f h (getD (externsBy f h map) e 0)) (externsBy f h map) e p refl in
-      let z : e ≡ s .index = externs-once e (s .index) p (s .inside) (rw (s .named) (order-same (symbolText f h (getD (externsBy f h map) e 0)))) in
+      let z : e ≡ s .index = externs-once e (s .index) p (s .inside) (rw (s .named) (compare-self (symbolText f h (getD (externsBy f h map) e 0)))) in
       s .found ∙ ap At (sym z)
 
 -- ---- what the answer of `collect` says of the list ys and the buffer

@@ -12,7 +12,7 @@ use Rattle.names.specs.declared.Order.{Order}
 use Rattle.names.specs.declared.Order.the-variants.{Less, Equal, Greater}
 use Rattle.names.specs.Bytes.{compareBytes}
 use Rattle.names.specs.Name.{symbolText}
-use Rattle.externs.specs.Order.{order-equal, opposite, order-opposite, order-less}
+use Rattle.names.specs.OrderLaws.{equal-same, turned, compare-turned, less-less}
 use Rattle.externs.specs.Externs.{orderOf, byOrder, insertName}
 
 -- ---- a list by its members
@@ -43,7 +43,7 @@ module _ (f : List ℕ) (h : Header) (j : ℕ) where
   -- of two equal names the lower number has both
   min-name : (x : ℕ) → orderOf f h j x ≡ Equal → symbolText f h (min j x) ≡ symbolText f h x
   min-name x e =
-      ⊎-elim (λ m. ap (symbolText f h) m ∙ order-equal (symbolText f h j) (symbolText f h x) e) (λ m. ap (symbolText f h) m) (min-either j x)
+      ⊎-elim (λ m. ap (symbolText f h) m ∙ equal-same (symbolText f h j) (symbolText f h x) e) (λ m. ap (symbolText f h) m) (min-either j x)
 
   pub in-insert : (y : ℕ) (xs : List ℕ) → In y (insertName f h j xs) → (y ≡ j) ⊎ In y xs
   unfolding insertName
@@ -66,13 +66,13 @@ module _ (f : List ℕ) (h : Header) (j : ℕ) where
           → Rising f h (byOrder o (j ∷ x ∷ xs) (min j x ∷ xs) (x ∷ insertName f h j xs))
       by-order Less e s = (
         λ y p. ⊎-elim (λ q. ap (λ (z : ℕ). orderOf f h j z) q ∙ e)
-            (λ q. order-less (symbolText f h j) (symbolText f h x) (symbolText f h y) e (r .0 y q)) p,
+            (λ q. less-less (symbolText f h j) (symbolText f h x) (symbolText f h y) e (r .0 y q)) p,
         r,
       )
       by-order Equal e s = (λ y p. ap (λ (n : List ℕ). compareBytes n (symbolText f h y)) (min-name x e) ∙ r .0 y p, r .1)
       by-order Greater e s = (
         λ y p. ⊎-elim
-            (λ q. ap (λ (z : ℕ). orderOf f h x z) q ∙ order-opposite (symbolText f h j) (symbolText f h x) ∙ ap opposite e)
+            (λ q. ap (λ (z : ℕ). orderOf f h x z) q ∙ compare-turned (symbolText f h j) (symbolText f h x) ∙ ap turned e)
             (λ q. r .0 y q) (in-insert y xs p),
         s,
       )
@@ -112,7 +112,7 @@ module _ (f : List ℕ) (h : Header) (j : ℕ) where
           record {
             entry = min j x;
             is = inl refl;
-            named = min-name x e ∙ sym (order-equal (symbolText f h j) (symbolText f h x) e);
+            named = min-name x e ∙ sym (equal-same (symbolText f h j) (symbolText f h x) e);
             lowest = omega arith;
           }
       by-order Greater e rest = later j x (insertName f h j xs) rest

@@ -2,7 +2,6 @@ pub mod Puts
 pub mod Externs
 pub mod Held
 pub mod Slot
-pub mod Order
 pub mod SlotLaws
 pub mod Inserting
 pub mod ExternLaws

@@ -13,7 +13,7 @@ use Rattle.names.specs.Bytes.{sameBytes}
 use Rattle.names.specs.Name.{symbolText}
 use Rattle.externs.specs.declared.Found.{Found}
 use Rattle.externs.specs.declared.Found.the-variants.{At, Nothing}
-use Rattle.externs.specs.Order.{same-names, same-itself}
+use Rattle.names.specs.OrderLaws.{same-bytes, same-self}
 use Rattle.externs.specs.Slot.{isNamed, slotFrom, slotOf}
 
 -- the slot of a name that the list has
@@ -54,12 +54,12 @@ module _ (f : List ℕ) (h : Header) (name : List ℕ) where
         index = r .past;
         found = let e : 0 + r .past ≡ r .past = omega arith in rw e at (r .found);
         inside = r .inside;
-        named = same-names (symbolText f h (getD list (r .past) 0)) name (r .named);
+        named = same-bytes (symbolText f h (getD list (r .past) 0)) name (r .named);
       }
 
   -- a name that some entry has is found, and where it is found it stands
   pub slot-of-entry : (list : List ℕ) (e : ℕ) → e < length list → symbolText f h (getD list e 0) ≡ name → Slot f h list name
-  slot-of-entry list e k n = slot-whole list (slot-search list 0 e k (rw n (same-itself name)))
+  slot-of-entry list e k n = slot-whole list (slot-search list 0 e k (rw n (same-self name)))
 
   slot-from : (xs : List ℕ) (i r : ℕ) → slotFrom f h name i xs ≡ At r → SlotIn f h name i xs
   unfolding slotFrom pick

@@ -1,2 +1,4 @@
 pub mod Bytes
 pub mod Name
+pub mod NameLaws
+pub mod OrderLaws

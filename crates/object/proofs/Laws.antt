@@ -9,7 +9,6 @@ use native.Mathlib.Nat.{one-mul}
 use native.Mathlib.Numerals.{add-one}
 use lib.Dec.{leb, ltb, eqb, lit<}
 use lib.IntN.{ℤ, pos, negsuc}
-use lib.ListN.{length, length-append}
 use lib.Pow.{shl-exact}
 use borrow.Author.Tests.{leb-true, eq-eqb, ne-eqb, le-leb, lt-leb, lt-ltb, le-ltb}
 use mir.Syntax.{w16}
@@ -24,6 +23,7 @@ use Rattle.object.specs.declared.Place.{Place}
 use Rattle.object.specs.declared.Place.the-variants.{In, Undefined, Common, Absolute, Nowhere, Other}
 use Rattle.object.specs.Format.{headerOf, stringTable, stringLength, rawSize, rawPointer, relocationPointer, relocationField, flags, auxiliaries, RELOCATION-SIZE}
 use Rattle.object.specs.Section.{loadedBy, alignCode, alignOf, permissionsBy, fileStart, fileEnd, rangeLength, extended, relocationRecords, relocationCount, relocationStart, hasFlag, uninitialized, LNK-NRELOC-OVFL}
+use Rattle.object.specs.SymbolLaws.{length-primaries}
 use Rattle.object.specs.Symbol.{codeOrData, staticKind, zeroPlace, placeBy, owed, primary, primaries}
 
 -- ---- the header
@@ -161,11 +161,6 @@ pub owed-end : (f : List ℕ) (h : Header) (j n m left : ℕ) → left ≡ owed 
 owed-end f h j n m left e a b q = let z : j ≡ n = omega arith in cc
 
 -- the map with j records done
-length-primaries : (f : List ℕ) (h : Header) (n : ℕ) → length (primaries f h n) ≡ n
-unfolding primaries
-length-primaries f h zero = refl
-length-primaries f h (suc n) = simp (length-append, length-primaries f h n) (omega arith)
-
 pub map-none : (f : List ℕ) (h : Header) (l : List ℕ) → l ≡ splice l 0 (primaries f h 0)
 unfolding splice primaries
 map-none f h l = refl

@@ -1,4 +1,6 @@
 pub mod Format
 pub mod Section
+pub mod SectionLaws
 pub mod Symbol
+pub mod SymbolLaws
 pub mod Relocation

@@ -23,7 +23,7 @@ use Rattle.refusal.specs.declared.Answer.the-variants.{Done, Refused}
 use Rattle.pagemap.specs.Marks.{marked, mark, markPages, pageCount, wordAt}
 use Rattle.pagemap.specs.Pages.{storageOk, mapped, spanMapped, readCode, sliceCode, pagesLent, paddedPages, paddedWriteCode, padded, capacityCode}
 use Rattle.pagemap.specs.MarkLaws.{length-pages}
-use Rattle.pagemap.specs.PageLaws.{mapped-of, mapped-marked, read-in, slice-ordered, slice-in, padded-in}
+use Rattle.pagemap.specs.PageLaws.{mapped-of, mapped-marked, read-in, slice-ordered, slice-in, padded-fits}
 
 -- ---- the marks
 module _ (m : List ℕ) (p at w : ℕ) where
@@ -214,15 +214,15 @@ lent-fits size n f h = let l : n ≤ size / 4096 = leb-true n (size / 4096) h in
 pub ruleset lent-ways = (lent-none, lent-few, lent-many, lent-fits)
 
 -- ---- a padded write: the items, and zeros right after them
-pub padded-fits : (size marks o n k : ℕ) → size < 2 ^ 64 → k ≡ paddedWriteCode size marks o n → k ≡ 0 → o + n < 2 ^ 64
-padded-fits size marks o n k f e z = let h = padded-in size marks o n (cc) in omega arith
+pub padded-sum : (size marks o n k : ℕ) → size < 2 ^ 64 → k ≡ paddedWriteCode size marks o n → k ≡ 0 → o + n < 2 ^ 64
+padded-sum size marks o n k f e z = let h = padded-fits size marks o n (cc) .inside (omega arith) in omega arith
 
 pub padded-is : (image x y items : List ℕ) (o : ℕ) → x ≡ splice image o items
     → y ≡ splice x (o + length items) (replicate ((length items / 4096 + 1) * 4096 - length items) 0) → y ≡ splice image o (padded items)
 unfolding padded
 padded-is image x y items o e d = d ∙ rw e (splice-next image o items (replicate ((length items / 4096 + 1) * 4096 - length items) 0) (o + length items) refl)
 
-pub ruleset padded-ways = (padded-fits, padded-is)
+pub ruleset padded-ways = (padded-sum, padded-is)
 
 -- ---- marks that are cleared from end to end
 pub cleared : (m x : List ℕ) → x ≡ splice m 0 (replicate (length m) 0) → x ≡ replicate (length m) 0

@@ -1,10 +1,21 @@
--- What holds of the marks, as later layers ask it.
+-- What holds of the marks, as later layers ask it: a mark that is set is there and changes no other, and the count is the count of marked pages.
 use mathlib.Core.Path.{_≡_, refl, sym, ap, _∙_}
-use mathlib.Core.List.{List}
-use Prim.Native.Nat.{ℕ, zero, suc, _+_, _-_, _*_, _/_, _%_, _^_, _≤_, _<_}
+use mathlib.Core.Bool.{Bool, true, false, _&&_, _||_}
+use mathlib.Core.List.{List, [], _∷_}
+use mathlib.Core.Logic.{⊎-elim}
+use Prim.Native.Nat.{ℕ, zero, suc, _+_, _-_, _*_, _/_, _%_, _^_, _≤_, _<_, max}
 use native.Mathlib.Omega.{arith}
-use lib.ListN.{length}
-use Rattle.le.specs.Le.{get, le, splice, length-splice}
+use native.Mathlib.Nat.{mod-lt, pow-suc, pow-zero, one-mul, div-one, mul-comm, div-div-eq-div-mul, div-eq-of-lt, mod-eq-of-lt, eq-or-lt-of-le}
+use native.Mathlib.Numerals.{add-one}
+use lib.ListN.{length, getD, set}
+use lib.Bits.{bitOr, or-shr, or-step, or-lt}
+use lib.Count.{ones, ones-step, ones-le}
+use lib.Dec.{ltb, leb, eqb}
+use lib.Pow.{pow-lt, pow-add, shl-shr}
+use borrow.Author.Tests.{eq-eqb, ne-eqb, eqb-true, eqb-false, le-leb, lt-ltb, leb-true, ltb-true}
+use Rattle.util.specs.Pick.{pick, yes-no, le-or-lt, and-left, and-right, and-both}
+use Rattle.util.specs.Prefix.{sumTo, countTo, sum-front, sum-plus, sum-same, sum-zero, sum-rows, count-is-sum}
+use Rattle.le.specs.Le.{get, le, splice, length-le, length-splice, get-splice, get-before, get-after}
 use Rattle.pagemap.specs.Marks.{marked, mark, markPages, pageCount, wordAt}
 
 -- ---- the length is kept
@@ -16,3 +27,202 @@ pub length-pages : (m : List ℕ) (p n : ℕ) → length (markPages m p n) ≡ l
 unfolding markPages
 length-pages m p zero = refl
 length-pages m p (suc n) = length-mark (markPages m p n) (p + n) ∙ length-pages m p n
+
+-- ---- each element is a byte; open, so that what is known of a lent slice serves as it stands
+abbrev pub Bytes : List ℕ → Type 0
+Bytes l = (i : ℕ) → getD l i 0 < 256
+
+set-bytes : (l : List ℕ) (i a : ℕ) → Bytes l → a < 256 → Bytes (set l i a)
+set-bytes [] i a b h k = b k
+set-bytes (x ∷ l) zero a b h zero = h
+set-bytes (x ∷ l) zero a b h (suc k) = b (suc k)
+set-bytes (x ∷ l) (suc i) a b h zero = b 0
+set-bytes (x ∷ l) (suc i) a b h (suc k) = set-bytes l i a (λ j. b (suc j)) h k
+
+-- bytes that are put among bytes leave bytes
+pub splice-bytes : (l : List ℕ) (i : ℕ) (vs : List ℕ) → Bytes l → Bytes vs → Bytes (splice l i vs)
+unfolding splice
+splice-bytes l i [] b v k = b k
+splice-bytes l i (a ∷ vs) b v k = splice-bytes (set l i a) (suc i) vs (set-bytes l i a b (v 0)) (λ j. v (suc j)) k
+
+pub le-bytes : (n v : ℕ) → Bytes (le n v)
+unfolding le
+le-bytes zero v i = omega arith
+le-bytes (suc n) v zero = omega arith
+le-bytes (suc n) v (suc i) = le-bytes n (v / 256) i
+
+get-less : (n : ℕ) (l : List ℕ) (i : ℕ) → Bytes l → get n l i < 256 ^ n
+unfolding get
+get-less zero l i b = rw pow-zero (omega arith)
+get-less (suc n) l i b =
+    let e : 256 ^ suc n ≡ 256 ^ n * 256 = pow-suc _ _ in
+    let r = get-less n l (suc i) b in
+    let a = b i in
+    omega arith
+
+-- marks are bytes, and a word of them is below 2 ^ 64
+pub word-less : (m : List ℕ) (w : ℕ) → Bytes m → wordAt m w < 2 ^ 64
+word-less m w b = get-less 8 m (8 * w) b
+
+pub mark-bytes : (m : List ℕ) (p : ℕ) → Bytes m → Bytes (mark m p)
+unfolding mark
+mark-bytes m p b = splice-bytes m (8 * (p / 64)) (le 8 (bitOr (wordAt m (p / 64)) (2 ^ (p % 64)))) b (le-bytes 8 (bitOr (wordAt m (p / 64)) (2 ^ (p % 64))))
+
+pub pages-bytes : (m : List ℕ) (p n : ℕ) → Bytes m → Bytes (markPages m p n)
+unfolding markPages
+pages-bytes m p zero b = b
+pages-bytes m p (suc n) b = mark-bytes (markPages m p n) (p + n) (pages-bytes m p n b)
+
+-- ---- bits: a bit of an `or` is the greater of the two; a power of two has its own bit and no other
+bit-or : (a b i : ℕ) → bitOr a b / 2 ^ i % 2 ≡ max (a / 2 ^ i % 2) (b / 2 ^ i % 2)
+bit-or a b i = rw (or-shr, or-step) (omega arith)
+
+bit-same : (j : ℕ) → 2 ^ j / 2 ^ j % 2 ≡ 1
+bit-same j = let e : 2 ^ j / 2 ^ j ≡ 1 = cc (shl-shr 1 j, one-mul (2 ^ j)) in rw e
+
+bit-other : (i j : ℕ) → (i ≡ j → ⊥) → 2 ^ j / 2 ^ i % 2 ≡ 0
+bit-other i j n =
+    ⊎-elim
+    (λ (h : i ≤ j).
+    let e : j ≡ suc (j - i - 1) + i = omega arith in
+    rw (e, pow-add, shl-shr, pow-suc) (omega arith))
+    (λ (h : j < i). let e : 2 ^ j / 2 ^ i ≡ 0 = div-eq-of-lt (pow-lt h) in rw e)
+    (le-or-lt i j)
+
+-- ---- a mark that is set is there, and no other has changed; page p's word must lie within the marks
+module _ (m : List ℕ) (p : ℕ) (b : Bytes m) (within : 8 * (p / 64) + 8 ≤ length m) where
+  word-marked : wordAt (mark m p) (p / 64) ≡ bitOr (wordAt m (p / 64)) (2 ^ (p % 64))
+  unfolding mark
+  word-marked =
+      get-splice 8 (bitOr (wordAt m (p / 64)) (2 ^ (p % 64))) m (8 * (p / 64)) within
+      (or-lt 64 (wordAt m (p / 64)) (2 ^ (p % 64)) (word-less m (p / 64) b) (pow-lt (mod-lt p (omega arith))))
+
+  word-kept : (w : ℕ) → (w ≡ p / 64 → ⊥) → wordAt (mark m p) w ≡ wordAt m w
+  unfolding mark
+  word-kept w n =
+      ⊎-elim
+      (λ (h : w ≤ p / 64). get-before 8 m (8 * (p / 64)) (le 8 (bitOr (wordAt m (p / 64)) (2 ^ (p % 64)))) (8 * w) (omega arith))
+      (λ (h : p / 64 < w). get-after 8 m (8 * (p / 64)) (le 8 (bitOr (wordAt m (p / 64)) (2 ^ (p % 64)))) (8 * w) (rw length-le (omega arith)))
+      (le-or-lt w (p / 64))
+
+  pub mark-there : marked (mark m p) p ≡ true
+  unfolding marked
+  mark-there = rw (word-marked, bit-or, bit-same) (eq-eqb (max (wordAt m (p / 64) / 2 ^ (p % 64) % 2) 1) 1 (omega arith))
+
+  pub mark-other : (q : ℕ) → (q ≡ p → ⊥) → marked (mark m p) q ≡ marked m q
+  unfolding marked
+  mark-other q n =
+      ⊎-elim
+      (λ t.
+      let e : q / 64 ≡ p / 64 = eqb-true (q / 64) (p / 64) t in
+      let g : max (wordAt m (p / 64) / 2 ^ (q % 64) % 2) 0 ≡ wordAt m (p / 64) / 2 ^ (q % 64) % 2 = omega arith in
+      rw (e, word-marked, bit-or, bit-other (q % 64) (p % 64) (λ z. n (omega arith)), g))
+      (λ t. rw (word-kept (q / 64) (eqb-false (q / 64) (p / 64) t)))
+      (yes-no (eqb (q / 64) (p / 64)))
+
+  -- the two in one
+  pub marked-mark : (q : ℕ) → marked (mark m p) q ≡ eqb q p || marked m q
+  marked-mark q =
+      ⊎-elim
+      (λ t. let e : q ≡ p = eqb-true q p t in rw (t, e) mark-there)
+      (λ t. rw t (mark-other q (eqb-false q p t)))
+      (yes-no (eqb q p))
+
+-- ---- the same of n pages from p, all of which have their marks there
+module _ (m : List ℕ) (p : ℕ) (b : Bytes m) where
+  pub pages-there : (n q : ℕ) → p + n ≤ 64 * (length m / 8) → p ≤ q → q < p + n → marked (markPages m p n) q ≡ true
+  unfolding markPages
+  pages-there zero q l h k = absurd (omega arith)
+  pages-there (suc n) q l h k =
+      let e : length (markPages m p n) ≡ length m = length-pages m p n in
+      let f : 8 * ((p + n) / 64) + 8 ≤ length (markPages m p n) = rw e (omega arith) in
+      ⊎-elim
+      (λ (z : q ≡ p + n). rw z (mark-there (markPages m p n) (p + n) (pages-bytes m p n b) f))
+      (λ (z : q < p + n).
+      mark-other (markPages m p n) (p + n) (pages-bytes m p n b) f q (λ y. omega arith) ∙ pages-there n q (omega arith) h z)
+      (eq-or-lt-of-le (omega arith))
+
+  pub pages-other : (n q : ℕ) → (0 < n → p + n ≤ 64 * (length m / 8)) → (p ≤ q → q < p + n → ⊥) → marked (markPages m p n) q ≡ marked m q
+  unfolding markPages
+  pages-other zero q l o = refl
+  pages-other (suc n) q l o =
+      let e : length (markPages m p n) ≡ length m = length-pages m p n in
+      let k : p + suc n ≤ 64 * (length m / 8) = l (omega arith) in
+      let f : 8 * ((p + n) / 64) + 8 ≤ length (markPages m p n) = rw e (omega arith) in
+      mark-other (markPages m p n) (p + n) (pages-bytes m p n b) f q (λ z. o (omega arith) (omega arith))
+      ∙ pages-other n q (λ z. omega arith) (λ x y. o x (omega arith))
+
+  -- the two in one
+  pub marked-pages : (n q : ℕ) → (0 < n → p + n ≤ 64 * (length m / 8)) → marked (markPages m p n) q ≡ (leb p q && ltb q (p + n)) || marked m q
+  marked-pages n q l =
+      ⊎-elim
+      (λ t.
+      let h : p ≤ q = leb-true p q (and-left (leb p q) (ltb q (p + n)) t) in
+      let k : q < p + n = ltb-true q (p + n) (and-right (leb p q) (ltb q (p + n)) t) in
+      rw t (pages-there n q (l (omega arith)) h k))
+      (λ t. rw t (pages-other n q l (λ h k. not-both (cc (and-both (leb p q) (ltb q (p + n)) (le-leb p q h) (lt-ltb q (p + n) k), t)))))
+      (yes-no (leb p q && ltb q (p + n)))
+    where
+      not-both : true ≡ false → ⊥
+      not-both e = let z : _≡_ {A = ℕ} 0 1 = cc in omega arith
+
+-- ---- the count: a word's ones are its bits' sum, so the words' ones are the marked pages
+ones-bits : (k w : ℕ) → w < 2 ^ k → ones w ≡ sumTo (λ j. w / 2 ^ j % 2) k
+unfolding sumTo
+ones-bits zero w h = let l : ones w ≤ 0 = ones-le 0 w h in omega arith
+ones-bits (suc k) w h =
+    let e : 2 ^ suc k ≡ 2 ^ k * 2 = pow-suc 2 k in
+    let r : ones (w / 2) ≡ sumTo (λ j. w / 2 / 2 ^ j % 2) k = ones-bits k (w / 2) (omega arith) in
+    let f : w / 2 ^ 0 % 2 ≡ w % 2 = rw (pow-zero, div-one) in
+    let g : sumTo (λ j. w / 2 / 2 ^ j % 2) k ≡ sumTo (λ j. w / 2 ^ suc j % 2) k =
+    sum-same (λ j. w / 2 / 2 ^ j % 2) (λ j. w / 2 ^ suc j % 2) k (λ j z. rw (pow-suc, mul-comm (2 ^ j) 2, div-div-eq-div-mul)) in
+    ones-step w ∙ (omega arith) ∙ sym (sum-front (λ j. w / 2 ^ j % 2) k)
+
+bit-pick : (x : ℕ) → x < 2 → pick (eqb x 1) 1 0 ≡ x
+unfolding pick
+bit-pick zero h = refl
+bit-pick (suc zero) h = refl
+bit-pick (suc (suc x)) h = absurd (omega arith)
+
+module _ (m : List ℕ) (b : Bytes m) where
+  bits-are : (w j : ℕ) → j < 64 → wordAt m w / 2 ^ j % 2 ≡ pick (marked m (64 * w + j)) 1 0
+  unfolding marked
+  bits-are w j h =
+      let e : (64 * w + j) / 64 ≡ w = omega arith in
+      let f : (64 * w + j) % 64 ≡ j = omega arith in
+      sym (rw (e, f) (bit-pick (wordAt m w / 2 ^ j % 2) (omega arith)))
+
+  ones-are : (w : ℕ) → ones (wordAt m w) ≡ sumTo (λ j. pick (marked m (64 * w + j)) 1 0) 64
+  ones-are w =
+      ones-bits 64 (wordAt m w) (word-less m w b)
+      ∙ sum-same (λ j. wordAt m w / 2 ^ j % 2) (λ j. pick (marked m (64 * w + j)) 1 0) 64 (λ j h. bits-are w j h)
+
+  -- all marks that there are room for
+  pub count-all : pageCount m ≡ countTo (marked m) (64 * (length m / 8))
+  unfolding pageCount
+  count-all =
+      sum-same (λ w. ones (wordAt m w)) (λ w. sumTo (λ j. pick (marked m (64 * w + j)) 1 0) 64) (length m / 8) (λ w h. ones-are w)
+      ∙ sum-rows (λ i. pick (marked m i) 1 0) 64 (length m / 8)
+      ∙ sym (count-is-sum (marked m) (64 * (length m / 8)))
+
+  -- those of n pages where none at or past page n is set
+  pub count-pages : (n : ℕ) → n ≤ 64 * (length m / 8) → ((p : ℕ) → n ≤ p → p < 64 * (length m / 8) → marked m p ≡ false) → pageCount m ≡ countTo (marked m) n
+  unfolding pick
+  count-pages n h z =
+      let d : ℕ = 64 * (length m / 8) - n in
+      let e : 64 * (length m / 8) ≡ n + d = omega arith in
+      let r : sumTo (λ i. pick (marked m (n + i)) 1 0) d ≡ 0 =
+      sum-zero (λ i. pick (marked m (n + i)) 1 0) d (λ i k. let y : marked m (n + i) ≡ false = z (n + i) (omega arith) (omega arith) in rw y) in
+      let t = sum-plus (λ i. pick (marked m i) 1 0) n d in
+      count-all ∙ count-is-sum (marked m) (64 * (length m / 8)) ∙ rw e (t ∙ rw r (omega arith)) ∙ sym (count-is-sum (marked m) n)
+
+-- n numbers hold no more than n that pass, so that count fits wherever n does, and `page_count` does not wrap
+pub count-most : (p : ℕ → Bool) (n : ℕ) → countTo p n ≤ n
+unfolding countTo pick
+count-most p zero = omega arith
+count-most p (suc n) =
+    let r = count-most p n in
+    ⊎-elim (λ e. rw e (omega arith)) (λ e. rw e (omega arith)) (yes-no (p n))
+
+pub count-exact : (m : List ℕ) (n : ℕ) → pageCount m ≡ countTo (marked m) n → n < 2 ^ 64 → pageCount m % 2 ^ 64 ≡ countTo (marked m) n
+count-exact m n e h = let k = count-most (marked m) n in rw e (mod-eq-of-lt (omega arith))

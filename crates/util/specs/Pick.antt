@@ -19,6 +19,9 @@ yes-no false = inr refl
 pub le-or-lt : (a b : ℕ) → (a ≤ b) ⊎ (b < a)
 le-or-lt a b = ⊎-elim (λ e. inl (leb-true a b e)) (λ e. inr (leb-false a b e)) (yes-no (leb a b))
 
+pub three-ways : (a b : ℕ) → (a < b) ⊎ ((a ≡ b) ⊎ (b < a))
+three-ways a b = ⊎-elim (λ h. ⊎-elim (λ k. inr (inl (omega arith))) (λ k. inl k) (le-or-lt b a)) (λ k. inr (inr k)) (le-or-lt a b)
+
 -- two tests are one where each gives the other
 pub both-ways : (a b : Bool) → (a ≡ true → b ≡ true) → (b ≡ true → a ≡ true) → a ≡ b
 both-ways true b f g = sym (f refl)

@@ -1,0 +1,258 @@
+-- What a good name is: only bytes that a name may have, and an end where one is due (01, "Records").
+-- A byte past the file reads as 0; the survey's refusals 3 and 4 keep every field and the string table within it.
+use mathlib.Core.Path.{_≡_, refl, sym, ap, _∙_}
+use mathlib.Core.Bool.{Bool, true, false, _&&_, not}
+use mathlib.Core.List.{List, [], _∷_}
+use mathlib.Core.Logic.{_⊎_, inl, inr, ⊎-elim}
+use Prim.Native.Nat.{ℕ, zero, suc, _+_, _-_, _≤_, _<_}
+use native.Mathlib.Omega.{arith}
+use lib.Dec.{ltb, leb, eqb}
+use lib.ListN.{length, getD, List·getD-eq-default}
+use borrow.Author.Tests.{leb-true, ltb-true, eqb-true, eqb-false, not-true}
+use Rattle.util.specs.Pick.{pick, yes-no, le-or-lt, and-left, and-right}
+use Rattle.util.specs.Prefix.{allTo, all-at}
+use Rattle.le.specs.Le.{get, part, length-part, part-none}
+use Rattle.object.specs.declared.Header.{Header}
+use Rattle.object.specs.Format.{NAME-SIZE, sectionAt, symbolAt, stringTable, stringLength}
+use Rattle.names.specs.declared.Name.{Name}
+use Rattle.names.specs.declared.Name.the-variants.{Good, Bad}
+use Rattle.names.specs.Bytes.{run, visible, allVisible, goodSectionName, goodSymbolName, allDigits, decimal}
+use Rattle.names.specs.Name.{nameBytes, shortRun, longRun, symbolRun, slashRun, slashDigits, sectionRun, checked, sectionNameAt, symbolNameAt, sectionName, symbolName, SLASH}
+
+-- ---- where a run ends
+-- one more byte: a zero ends the run, any other is passed
+module _ (f : List ℕ) (i n : ℕ) where
+  run-stop : eqb (getD f i 0) 0 ≡ true → run f i (suc n) ≡ 0
+  unfolding run pick
+  run-stop e = rw e
+
+  run-on : eqb (getD f i 0) 0 ≡ false → run f i (suc n) ≡ suc (run f (i + 1) n)
+  unfolding run pick
+  run-on e = rw e
+
+-- at most as many as were looked at
+pub run-most : (f : List ℕ) (i n : ℕ) → run f i n ≤ n
+unfolding run
+run-most f i zero = omega arith
+run-most f i (suc n) =
+    ⊎-elim (λ e. rw (run-stop f i n e) (omega arith)) (λ e. rw (run-on f i n e) (let r = run-most f (i + 1) n in omega arith))
+    (yes-no (eqb (getD f i 0) 0))
+
+-- a run that is shorter ends at a zero
+pub run-zero : (f : List ℕ) (i n : ℕ) → run f i n < n → getD f (i + run f i n) 0 ≡ 0
+run-zero f i zero h = absurd (omega arith)
+run-zero f i (suc n) h =
+    ⊎-elim (λ e. let a : i + 0 ≡ i = omega arith in rw (run-stop f i n e, a) (eqb-true _ _ e))
+    (λ e.
+    let r = run-on f i n e in
+    let a : i + suc (run f (i + 1) n) ≡ i + 1 + run f (i + 1) n = omega arith in
+    rw (r, a) (run-zero f (i + 1) n (omega arith)))
+    (yes-no (eqb (getD f i 0) 0))
+
+-- no byte of it is zero
+pub run-before : (f : List ℕ) (i n k : ℕ) → k < run f i n → getD f (i + k) 0 ≡ 0 → ⊥
+unfolding run
+run-before f i zero k h = absurd (omega arith)
+run-before f i (suc n) zero h =
+    let a : i + 0 ≡ i = omega arith in
+    ⊎-elim (λ e. let r = run-stop f i n e in absurd (omega arith)) (λ e. rw a (eqb-false _ _ e)) (yes-no (eqb (getD f i 0) 0))
+run-before f i (suc n) (suc k) h =
+    let a : i + suc k ≡ i + 1 + k = omega arith in
+    ⊎-elim (λ e. let r = run-stop f i n e in absurd (omega arith))
+    (λ e. let r = run-on f i n e in rw a (run-before f (i + 1) n k (omega arith)))
+    (yes-no (eqb (getD f i 0) 0))
+
+-- all of it lies within the file
+pub run-within : (f : List ℕ) (i n : ℕ) → 0 < run f i n → i + run f i n ≤ length f
+run-within f i n h =
+    ⊎-elim (λ past. absurd (run-before f i n (run f i n - 1) (omega arith) (List·getD-eq-default f 0 {n = i + (run f i n - 1)} past)))
+    (λ k. omega arith)
+    (le-or-lt (length f) (i + (run f i n - 1)))
+
+-- so the part that it names has as many bytes as it says
+pub run-long : (f : List ℕ) (i n : ℕ) → length (part f i (run f i n)) ≡ run f i n
+run-long f i n =
+    ⊎-elim (λ h. let z : run f i n ≡ 0 = omega arith in rw (z, part-none f i)) (λ h. length-part f i (run f i n) (run-within f i n h)) (le-or-lt (run f i n) 0)
+
+-- ---- a name that passed its check
+-- what is picked beside Bad and yet is good was picked, and is as it was
+taken : (t : Bool) (m : Name) (at n : ℕ) → pick t m Bad ≡ Good at n → t ≡ true
+unfolding pick
+taken true m at n e = refl
+taken false m at n e = cc
+
+taken-is : (t : Bool) (m : Name) (at n : ℕ) → pick t m Bad ≡ Good at n → m ≡ Good at n
+unfolding pick
+taken-is true m at n e = e
+taken-is false m at n e = cc
+
+-- a name that is taken passed its rule, on the bytes that it names
+pub checked-good : (good : List ℕ → Bool) (f : List ℕ) (m : Name) (at n : ℕ) → checked good f m ≡ Good at n → good (part f at n) ≡ true
+unfolding checked
+checked-good good f Bad at n e = cc
+checked-good good f (Good a b) at n e =
+    let t : good (part f a b) ≡ true = taken (good (part f a b)) (Good a b) at n e in
+    let q : Good a b ≡ Good at n = taken-is (good (part f a b)) (Good a b) at n e in
+    let x : a ≡ at = cc in
+    let y : b ≡ n = cc in
+    rw (← x, ← y) t
+
+-- the check moves nothing: the name stands where it was found
+pub checked-is : (good : List ℕ → Bool) (f : List ℕ) (m : Name) (at n : ℕ) → checked good f m ≡ Good at n → m ≡ Good at n
+unfolding checked
+checked-is good f Bad at n e = cc
+checked-is good f (Good a b) at n e = taken-is (good (part f a b)) (Good a b) at n e
+
+-- ---- its bytes
+-- a byte that a name may have
+pub record Visible (b : ℕ) : Type 0 where
+  pub low : 0x21 ≤ b
+  pub high : b ≤ 0x7E
+
+visible-byte : (b : ℕ) → visible b ≡ true → Visible b
+visible-byte b e =
+    record {
+      low = leb-true 0x21 b (and-left (leb 0x21 b) (leb b 0x7E) e);
+      high = leb-true b 0x7E (and-right (leb 0x21 b) (leb b 0x7E) e);
+    }
+
+module _ (good : List ℕ → Bool) (rule : (s : List ℕ) → good s ≡ true → allVisible s ≡ true) (f : List ℕ) (k : ℕ) where
+  bytes-visible : (m c : Name) → checked good f m ≡ c → k < length (nameBytes f c) → Visible (getD (nameBytes f c) k 0)
+  unfolding nameBytes
+  bytes-visible m Bad e h = absurd (omega arith)
+  bytes-visible m (Good at n) e h =
+      visible-byte (getD (part f at n) k 0)
+      (all-at (λ i. visible (getD (part f at n) i 0)) (length (part f at n)) k (rule (part f at n) (checked-good good f m at n e)) h)
+
+section-rule : (s : List ℕ) → goodSectionName s ≡ true → allVisible s ≡ true
+unfolding goodSectionName
+section-rule s e = e
+
+symbol-rule : (s : List ℕ) → goodSymbolName s ≡ true → allVisible s ≡ true
+unfolding goodSymbolName
+symbol-rule s e = and-right (not (eqb (length s) 0)) (allVisible s) e
+
+-- every byte of a section's name is 0x21 to 0x7E
+pub section-name-visible : (f : List ℕ) (h : Header) (i k : ℕ) → k < length (nameBytes f (sectionName f h i)) → Visible (getD (nameBytes f (sectionName f h i)) k 0)
+section-name-visible f h i k l = bytes-visible goodSectionName section-rule f k (sectionRun f h (sectionAt h i)) (sectionName f h i) refl l
+
+-- every byte of a symbol's name is 0x21 to 0x7E
+pub symbol-name-visible : (f : List ℕ) (h : Header) (j k : ℕ) → k < length (nameBytes f (symbolName f h j)) → Visible (getD (nameBytes f (symbolName f h j)) k 0)
+symbol-name-visible f h j k l = bytes-visible goodSymbolName symbol-rule f k (symbolRun f h (symbolAt h j)) (symbolName f h j) refl l
+
+-- a symbol's good name is not empty
+pub symbol-name-some : (f : List ℕ) (h : Header) (j at n : ℕ) → symbolName f h j ≡ Good at n → 0 < length (nameBytes f (Good at n))
+unfolding nameBytes goodSymbolName
+symbol-name-some f h j at n e =
+    let g = checked-good goodSymbolName f (symbolRun f h (symbolAt h j)) at n e in
+    let z : length (part f at n) ≡ 0 → ⊥ = eqb-false _ _ (not-true _ (and-left (not (eqb (length (part f at n)) 0)) (allVisible (part f at n)) g)) in
+    omega arith
+
+-- ---- where it stands
+-- in its field: at most eight bytes, and either all eight or a zero behind them
+pub record InField (f : List ℕ) (field at n : ℕ) : Type 0 where
+  pub start : at ≡ field
+  pub few : n ≤ NAME-SIZE
+  pub end : (n ≡ NAME-SIZE) ⊎ (getD f (at + n) 0 ≡ 0)
+  pub long : length (part f at n) ≡ n
+
+-- in the string table, behind its length field: it ends at a zero before the table's end
+pub record InStrings (f : List ℕ) (h : Header) (offset at n : ℕ) : Type 0 where
+  pub start : at ≡ stringTable h + offset
+  pub behind : 4 ≤ offset
+  pub within : offset + n < stringLength f h
+  pub zero-end : getD f (at + n) 0 ≡ 0
+  pub long : length (part f at n) ≡ n
+
+field-run : (f : List ℕ) (field : ℕ) → InField f field field (run f field NAME-SIZE)
+field-run f field =
+    let m = run-most f field NAME-SIZE in
+    record {
+      start = refl;
+      few = m;
+      end = ⊎-elim (λ k. inl (omega arith)) (λ k. inr (run-zero f field NAME-SIZE k)) (le-or-lt NAME-SIZE (run f field NAME-SIZE));
+      long = run-long f field NAME-SIZE;
+    }
+
+-- a short name: at most eight bytes, and a zero behind fewer
+pub short-name : (f : List ℕ) (field at n : ℕ) → shortRun f field ≡ Good at n → InField f field at n
+short-name f field at n e =
+    let a : field ≡ at = cc in
+    let r : run f field NAME-SIZE ≡ n = cc in
+    rw (← a, ← r) (field-run f field)
+
+strings-run : (f : List ℕ) (h : Header) (offset n : ℕ) → n ≡ run f (stringTable h + offset) (stringLength f h - offset) → 4 ≤ offset → n < stringLength f h - offset
+    → InStrings f h offset (stringTable h + offset) n
+strings-run f h offset n r low k =
+    record {
+      start = refl;
+      behind = low;
+      within = omega arith;
+      zero-end = rw r (run-zero f (stringTable h + offset) (stringLength f h - offset) (rw (← r) k));
+      long = rw r (run-long f (stringTable h + offset) (stringLength f h - offset));
+    }
+
+-- a long name: it starts at its offset, at least 4, and ends at a zero that lies within the table
+pub long-name : (f : List ℕ) (h : Header) (offset at n : ℕ) → longRun f h offset ≡ Good at n → InStrings f h offset at n
+unfolding longRun
+long-name f h offset at n e =
+    let left = stringLength f h - offset in
+    let r = run f (stringTable h + offset) left in
+    let t : leb 4 offset && ltb r left ≡ true = taken (leb 4 offset && ltb r left) (Good (stringTable h + offset) r) at n e in
+    let q : Good (stringTable h + offset) r ≡ Good at n = taken-is (leb 4 offset && ltb r left) (Good (stringTable h + offset) r) at n e in
+    let a : stringTable h + offset ≡ at = cc in
+    let b : r ≡ n = cc in
+    let low = leb-true 4 offset (and-left (leb 4 offset) (ltb r left) t) in
+    let k = ltb-true r left (and-right (leb 4 offset) (ltb r left) t) in
+    rw (← a, ← b) (strings-run f h offset r refl low k)
+
+-- where the table lies within the file, that zero is one of the file's bytes
+pub long-name-inside : (f : List ℕ) (h : Header) (offset at n : ℕ) → InStrings f h offset at n → stringTable h + stringLength f h ≤ length f → at + n < length f
+long-name-inside f h offset at n s k =
+    let a = s .start in
+    let w = s .within in
+    omega arith
+
+-- one of the two: in the field, or in the string table at some offset
+pub data Found (f : List ℕ) (h : Header) (field at n : ℕ) : Type 0 where
+  in-field : InField f field at n → Found f h field at n
+  in-strings : (offset : ℕ) → InStrings f h offset at n → Found f h field at n
+
+module _ (f : List ℕ) (h : Header) (field at n : ℕ) where
+  -- whichever of two was picked
+  either : (t : Bool) (a b : Name) → (a ≡ Good at n → Found f h field at n) → (b ≡ Good at n → Found f h field at n) → pick t a b ≡ Good at n
+      → Found f h field at n
+  unfolding pick
+  either true a b p q e = p e
+  either false a b p q e = q e
+
+  short-found : shortRun f field ≡ Good at n → Found f h field at n
+  short-found e = in-field (short-name f field at n e)
+
+  long-found : (offset : ℕ) → longRun f h offset ≡ Good at n → Found f h field at n
+  long-found o e = in-strings o (long-name f h o at n e)
+
+  bad-found : Bad ≡ Good at n → Found f h field at n
+  bad-found e = absurd (let z : _≡_ {A = ℕ} 0 1 = cc in omega arith)
+
+  -- a section's good name stands in its field or in the string table
+  pub section-name-found : sectionNameAt f h field ≡ Good at n → Found f h field at n
+  unfolding sectionRun slashRun
+  section-name-found e =
+      either (eqb (getD f field 0) SLASH) (slashRun f h field) (shortRun f field)
+      (λ s.
+      either (leb 2 (run f field NAME-SIZE) && allDigits (slashDigits f field)) (longRun f h (decimal (slashDigits f field))) Bad
+      (λ l. long-found (decimal (slashDigits f field)) l)
+      (λ b. bad-found b)
+      s)
+      (λ s. short-found s)
+      (checked-is goodSectionName f (sectionRun f h field) at n e)
+
+  -- a symbol's good name stands in its field or in the string table
+  pub symbol-name-found : symbolNameAt f h field ≡ Good at n → Found f h field at n
+  unfolding symbolRun
+  symbol-name-found e =
+      either (eqb (get 4 f field) 0) (longRun f h (get 4 f (field + 4))) (pick (eqb (getD f field 0) 0) Bad (shortRun f field))
+      (λ l. long-found (get 4 f (field + 4)) l)
+      (λ s. either (eqb (getD f field 0) 0) Bad (shortRun f field) (λ b. bad-found b) (λ k. short-found k) s)
+      (checked-is goodSymbolName f (symbolRun f h field) at n e)

@@ -1,0 +1,145 @@
+-- Symbols' own records and the runs of auxiliary records behind them share out the numbers: each number is one or the other, and no two
+-- runs meet (01, "Records").
+use mathlib.Core.Path.{_≡_, refl, sym, ap, _∙_}
+use mathlib.Core.Bool.{Bool, true, false}
+use mathlib.Core.List.{List, [], _∷_, _++_}
+use mathlib.Core.Logic.{⊎-elim}
+use Prim.Native.Nat.{ℕ, zero, suc, _+_, _-_, _≤_, _<_}
+use native.Mathlib.Omega.{arith}
+use lib.Dec.{eqb}
+use lib.ListN.{length, getD, length-append, List·getD-append}
+use lib.Seq.{getD-at}
+use borrow.Author.Tests.{eq-eqb, ne-eqb, eqb-true, eqb-false}
+use Rattle.util.specs.Pick.{pick, yes-no, le-or-lt}
+use Rattle.object.specs.declared.Header.{Header}
+use Rattle.object.specs.Format.{auxiliaries}
+use Rattle.object.specs.Symbol.{owed, primary, primaries}
+
+module _ (f : List ℕ) (h : Header) where
+  -- ---- what is owed, one record further
+  owed-own : (j : ℕ) → owed f h j ≡ 0 → owed f h (suc j) ≡ auxiliaries f h j
+  unfolding owed pick
+  owed-own j z = rw (eq-eqb (owed f h j) 0 z)
+
+  owed-less : (j : ℕ) → (owed f h j ≡ 0 → ⊥) → owed f h (suc j) ≡ owed f h j - 1
+  unfolding owed pick
+  owed-less j n = rw (ne-eqb (owed f h j) 0 n)
+
+  -- and k records into a symbol's run
+  owed-in : (j k : ℕ) → owed f h j ≡ 0 → k ≤ auxiliaries f h j → owed f h (j + suc k) ≡ auxiliaries f h j - k
+  owed-in j zero z l = let e : j + 1 ≡ suc j = omega arith in let r = owed-own j z in rw e (omega arith)
+  owed-in j (suc k) z l =
+      let e : j + suc (suc k) ≡ suc (j + suc k) = omega arith in
+      let r = owed-in j k z (omega arith) in
+      let d = owed-less (j + suc k) (λ n. omega arith) in
+      rw e (omega arith)
+
+  is-primary : (j : ℕ) → owed f h j ≡ 0 → primary f h j ≡ true
+  unfolding primary
+  is-primary j z = eq-eqb (owed f h j) 0 z
+
+  owes-none : (j : ℕ) → primary f h j ≡ true → owed f h j ≡ 0
+  unfolding primary
+  owes-none j p = eqb-true (owed f h j) 0 p
+
+  -- ---- the numbers are shared out
+  -- record 0 is a symbol's own
+  pub primary-first : primary f h 0 ≡ true
+  unfolding primary owed
+  primary-first = refl
+
+  -- the records that a symbol has behind it are auxiliary
+  pub auxiliary-run : (j k : ℕ) → primary f h j ≡ true → 1 ≤ k → k ≤ auxiliaries f h j → primary f h (j + k) ≡ false
+  unfolding primary
+  auxiliary-run j zero p a b = absurd (omega arith)
+  auxiliary-run j (suc k) p a b = let r = owed-in j k (owes-none j p) (omega arith) in ne-eqb (owed f h (j + suc k)) 0 (λ z. omega arith)
+
+  -- the record behind them is the next symbol's own
+  pub primary-next : (j : ℕ) → primary f h j ≡ true → primary f h (j + auxiliaries f h j + 1) ≡ true
+  primary-next j p =
+      let e : j + auxiliaries f h j + 1 ≡ j + suc (auxiliaries f h j) = omega arith in
+      let r = owed-in j (auxiliaries f h j) (owes-none j p) (omega arith) in
+      is-primary (j + auxiliaries f h j + 1) (rw e (omega arith))
+
+  -- a symbol before record j whose run reaches as far as j
+  pub record Owner (j : ℕ) : Type 0 where
+    pub own : ℕ
+    pub symbol : primary f h own ≡ true
+    pub before : own < j
+    pub reaches : j ≤ own + auxiliaries f h own
+
+  -- the last symbol before record j, and what its run still owes there
+  record Last (j : ℕ) : Type 0 where
+    pub own : ℕ
+    pub none : owed f h own ≡ 0
+    pub before : own < j
+    pub owes : j + owed f h j ≡ own + auxiliaries f h own + 1
+
+  last : (j : ℕ) → (owed f h j ≡ 0 → ⊥) → Last j
+  unfolding owed
+  last zero n = absurd (n refl)
+  last (suc j) n =
+      ⊎-elim
+      (λ e. let z = eqb-true (owed f h j) 0 e in let r = owed-own j z in record { own = j; none = z; before = omega arith; owes = omega arith })
+      (λ e.
+      let z = eqb-false (owed f h j) 0 e in
+      let r = owed-less j z in
+      let l = last j z in
+      let b = l .before in
+      let o = l .owes in
+      record { own = l .own; none = l .none; before = omega arith; owes = omega arith })
+      (yes-no (eqb (owed f h j) 0))
+
+  -- every record that is no symbol's own has such an owner
+  pub auxiliary-owner : (j : ℕ) → primary f h j ≡ false → Owner j
+  unfolding primary
+  auxiliary-owner j p =
+      let n = eqb-false (owed f h j) 0 p in
+      let l = last j n in
+      let o = l .owes in
+      record { own = l .own; symbol = is-primary (l .own) (l .none); before = l .before; reaches = omega arith }
+
+  -- a run ends before every symbol that follows, so that a record has one owner
+  pub runs-apart : (j k : ℕ) → primary f h j ≡ true → primary f h k ≡ true → j < k → j + auxiliaries f h j < k
+  runs-apart j k p q l =
+      ⊎-elim
+      (λ r.
+      let e : j + (k - j) ≡ k = omega arith in
+      let n : primary f h k ≡ false = rw e at (auxiliary-run j (k - j) p (omega arith) (omega arith)) in
+      absurd (let z : true ≡ false = cc in let y : _≡_ {A = ℕ} 0 1 = cc in omega arith))
+      (λ r. r)
+      (le-or-lt k (j + auxiliaries f h j))
+
+  -- ---- the map of primaries
+  -- it has one byte a record
+  pub length-primaries : (n : ℕ) → length (primaries f h n) ≡ n
+  unfolding primaries
+  length-primaries zero = refl
+  length-primaries (suc n) = simp (length-append, length-primaries n) (omega arith)
+
+  -- its byte j says whether record j is a symbol's own
+  pub primaries-at : (n j : ℕ) → j < n → getD (primaries f h n) j 0 ≡ pick (primary f h j) 1 0
+  unfolding primaries
+  primaries-at zero j l = absurd (omega arith)
+  primaries-at (suc n) j l =
+      ⊎-elim
+      (λ m.
+      let e : j ≡ n = omega arith in
+      rw e (getD-at (primaries f h n) (pick (primary f h n) 1 0) [] 0 n (length-primaries n)))
+      (λ m. List·getD-append (primaries f h n) (pick (primary f h n) 1 0 ∷ []) 0 j (rw length-primaries m) ∙ primaries-at n j m)
+      (le-or-lt n j)
+
+  -- a symbol's own record has a 1
+  pub primaries-one : (n j : ℕ) → j < n → primary f h j ≡ true → getD (primaries f h n) j 0 ≡ 1
+  unfolding pick
+  primaries-one n j l p = rw (primaries-at n j l, p)
+
+  -- and a 1 stands for nothing else
+  pub one-primaries : (n j : ℕ) → j < n → getD (primaries f h n) j 0 ≡ 1 → primary f h j ≡ true
+  unfolding pick
+  one-primaries n j l e =
+      ⊎-elim (λ p. p)
+      (λ (p : primary f h j ≡ false).
+      let z : getD (primaries f h n) j 0 ≡ 0 = rw (primaries-at n j l, p) in
+      absurd (omega arith))
+      (yes-no (primary f h j))
