@@ -1,2 +1,3 @@
 pub mod Space
 pub mod Ascii
+pub mod SpaceLaws

@@ -1,0 +1,83 @@
+-- What holds of the spaces' definitions, as later layers ask it.
+use mathlib.Core.Path.{_≡_, refl, sym, ap, _∙_}
+use mathlib.Core.Bool.{Bool, true, false, _&&_}
+use mathlib.Core.List.{List}
+use mathlib.Core.Logic.{_⊎_, ⊎-elim}
+use Prim.Native.Nat.{ℕ, _+_, _-_, _^_, _≤_, _<_, max}
+use native.Mathlib.Omega.{arith}
+use lib.ListN.{length, getD}
+use lib.Dec.{leb}
+use borrow.Author.Tests.{le-leb}
+use Rattle.util.specs.Pick.{pick, passed, passed-on}
+use Rattle.le.specs.Le.{get, le, part, splice, length-splice, splice-below, splice-above, part-splice, get-splice}
+use Rattle.refusal.specs.declared.Number.{Number}
+use Rattle.refusal.specs.declared.Number.the-variants.{Value}
+use Rattle.refusal.specs.Refusal.{numberOf}
+use Rattle.pagemap.specs.Pages.{storageOk, spanMapped, readCode}
+use Rattle.pagemap.specs.PageLaws.{span-in}
+use Rattle.aspace.specs.Space.{readNumber, writeCode, reached, spanAt, readCodeAt, readNumberAt, writeCodeAt}
+
+-- ---- a write that is not refused
+module _ (size : ℕ) (marks : List ℕ) (o n : ℕ) (e : writeCode size marks o n ≡ 0) where
+  write-storage : storageOk size (length marks) ≡ true
+  unfolding writeCode
+  write-storage = passed (storageOk size (length marks)) (pick (leb n 4096) (pick (spanMapped size marks o n) 0 15) 18) 13 e (λ z. omega arith)
+
+  -- has all its pages mapped
+  pub write-span : spanMapped size marks o n ≡ true
+  unfolding writeCode
+  write-span =
+      passed (spanMapped size marks o n) 0 15
+      (passed-on (leb n 4096) (pick (spanMapped size marks o n) 0 15) 18
+      (passed-on (storageOk size (length marks)) (pick (leb n 4096) (pick (spanMapped size marks o n) 0 15) 18) 13 e (λ z. omega arith))
+      (λ z. omega arith))
+      (λ z. omega arith)
+
+  -- lies within the image
+  pub write-in : o + n ≤ size
+  write-in = let h = span-in size marks o n write-span in omega arith
+
+  -- can be read back
+  pub write-read : readCode size marks o n ≡ 0
+  unfolding readCode pick
+  write-read = rw (write-storage, write-span)
+
+-- its bytes then stand there
+pub written-part : (image marks v : List ℕ) (o : ℕ) → writeCode (length image) marks o (length v) ≡ 0 → part (splice image o v) o (length v) ≡ v
+written-part image marks v o e = part-splice image o v (write-in (length image) marks o (length v) e)
+
+-- and every byte outside them is as it was
+pub written-outside : (image v : List ℕ) (o k : ℕ) → (k < o) ⊎ (o + length v ≤ k) → getD (splice image o v) k 0 ≡ getD image k 0
+written-outside image v o k h = ⊎-elim (λ p. splice-below image o v k p) (λ p. splice-above image o v k p) h
+
+-- a number of n bytes that was written is read back
+pub written-number : (n v : ℕ) (image marks : List ℕ) (o : ℕ) → writeCode (length image) marks o n ≡ 0 → v < 256 ^ n
+    → readNumber n (splice image o (le n v)) marks o ≡ Value v
+unfolding readNumber numberOf
+written-number n v image marks o e h =
+    rw (length-splice, write-read (length image) marks o n e, get-splice n v image o (write-in (length image) marks o n e) h)
+
+-- ---- by address is by offset, where the bytes do not pass 64 bits
+module _ (marks : List ℕ) (base o n : ℕ) (h : base + o + max n 1 ≤ 2 ^ 64) where
+  span-by-address : (size : ℕ) → spanAt size marks base (base + o) n ≡ spanMapped size marks o n
+  unfolding spanAt reached
+  span-by-address size =
+      let above : leb base (base + o) ≡ true = le-leb base (base + o) (omega arith) in
+      let below : leb (base + o + max n 1) (2 ^ 64) ≡ true = le-leb (base + o + max n 1) (2 ^ 64) h in
+      let back : base + o - base ≡ o = omega arith in
+      rw (above, below, back)
+
+  -- the refusal of a read
+  pub read-by-address : (size : ℕ) → readCodeAt size marks base (base + o) n ≡ readCode size marks o n
+  unfolding readCodeAt readCode
+  read-by-address size = rw (span-by-address size)
+
+  -- of a write
+  pub write-by-address : (size : ℕ) → writeCodeAt size marks base (base + o) n ≡ writeCode size marks o n
+  unfolding writeCodeAt writeCode
+  write-by-address size = rw (span-by-address size)
+
+  -- the number read
+  pub number-by-address : (image : List ℕ) → readNumberAt n image marks base (base + o) ≡ readNumber n image marks o
+  unfolding readNumberAt readNumber
+  number-by-address image = let back : base + o - base ≡ o = omega arith in rw (read-by-address (length image), back)
