@@ -2,10 +2,12 @@
 use mathlib.Core.Path.{_≡_, refl, sym, ap, _∙_}
 use mathlib.Core.Bool.{Bool, true, false, _&&_, not, and-false}
 use mathlib.Core.List.{List, [], _∷_, _++_, append-assoc}
-use Prim.Native.Nat.{ℕ, zero, suc, _+_, _-_, _≤_, _<_, min}
+use mathlib.Core.Logic.{⊎-elim}
+use Prim.Native.Nat.{ℕ, zero, suc, _+_, _-_, _/_, _≤_, _<_, min}
 use native.Mathlib.Nat.{not-suc-le-zero}
 use native.Mathlib.Numerals.{add-one, sub-one}
 use native.Mathlib.Omega.{arith}
+use borrow.Author.Tests.{eq-eqb, ne-eqb}
 use lib.ListN.{length, getD, take, drop, set, length-append, length-drop, drop-of-length-le, length-set, take-append-drop}
 use lib.Seq.{
   drop-cons,
@@ -22,7 +24,7 @@ use lib.Seq.{
   take-at,
   append-snoc,
 }
-use Rattle.util.specs.Pick.{pick}
+use Rattle.util.specs.Pick.{pick, le-or-lt}
 use Rattle.object.specs.declared.Header.{Header}
 use Rattle.object.specs.declared.SymbolKind.{SymbolKind}
 use Rattle.object.specs.declared.SymbolKind.the-variants.{Unknown, Text, Data, Section, File, Label}
@@ -37,7 +39,7 @@ use Rattle.externs.specs.Puts.{sectionNamed, outside, missing, isCommon,
 use Rattle.externs.specs.Externs.{orderOf, insertName, externRecords, externsTo, Holds}
 use Rattle.externs.specs.ExternLaws.{records-grow, sections-grow, over-length, count-room, count-list}
 use Rattle.externs.specs.Held.{held, putAt, lowerAt, Placed, Inserted}
-use Rattle.externs.specs.Slot.{isNamed, slotFrom, slotOf}
+use Rattle.externs.specs.Bisect.{nameOrder, bySide, halves}
 use Rattle.externs.specs.declared.Names.{Names}
 use Rattle.externs.specs.declared.Names.the-variants.{TooMany, Count}
 use Rattle.externs.specs.declared.Spot.{Spot}
@@ -344,19 +346,48 @@ module _ (f : List ℕ) (h : Header) (map : List ℕ) where
 
 pub ruleset externs-loop = (externs-none, externs-more, externs-over, externs-end, count-room)
 
--- ---- the slot of a name: what is left of the list has it
-module _ (f : List ℕ) (h : Header) (name list : List ℕ) (i : ℕ) (x : Found) where
-  pub slot-here : (r : Bool) → i < length list → r ≡ isNamed f h name (getD list i 0) → r ≡ true → slotFrom f h name i (drop i list) ≡ x → At i ≡ x
-  unfolding slotFrom pick
-  slot-here r k e t q = simp (drop-cons list i 0 k, sym e ∙ t) at q
+-- ---- the search in halves: the n entries from lo have the answer
+module _ (f : List ℕ) (h : Header) (name list : List ℕ) where
+  halves-none : (turns lo n : ℕ) → n ≤ 0 → halves f h list name turns lo n ≡ Nothing
+  unfolding halves pick
+  halves-none zero lo n k = refl
+  halves-none (suc turns) lo n k = rw (eq-eqb n 0 (omega arith))
 
-  pub slot-more : (r : Bool) → i < length list → r ≡ isNamed f h name (getD list i 0) → r ≡ false → slotFrom f h name i (drop i list) ≡ x
-      → slotFrom f h name (i + 1) (drop (i + 1) list) ≡ x
-  unfolding slotFrom pick
-  slot-more r k e t q = simp add-one (simp (drop-cons list i 0 k, sym e ∙ t) at q)
+  -- more turns than entries change nothing
+  halves-enough : (a b lo n : ℕ) → n ≤ a → n ≤ b → halves f h list name a lo n ≡ halves f h list name b lo n
+  unfolding halves pick
+  halves-enough zero b lo n p q = sym (halves-none b lo n p)
+  halves-enough (suc a) zero lo n p q = halves-none (suc a) lo n q
+  halves-enough (suc a) (suc b) lo n p q =
+      ⊎-elim (λ z. rw (eq-eqb n 0 (omega arith)))
+      (λ more.
+      let l = halves-enough a b lo (n / 2) (omega arith) (omega arith) in
+      let r = halves-enough a b (lo + n / 2 + 1) (n - n / 2 - 1) (omega arith) (omega arith) in
+      rw (l, r))
+      (le-or-lt n 0)
 
-  pub slot-end : length list ≤ i → slotFrom f h name i (drop i list) ≡ x → Nothing ≡ x
-  unfolding slotFrom
-  slot-end k q = simp (drop-of-length-le list k) at q
+  -- a turn of the loop
+  halves-turn : (lo n : ℕ) (o : Order) → 0 < n → o ≡ nameOrder f h name (getD list (lo + n / 2) 0)
+      → halves f h list name n lo n
+      ≡ bySide o (halves f h list name (n / 2) lo (n / 2)) (At (lo + n / 2)) (halves f h list name (n - n / 2 - 1) (lo + n / 2 + 1) (n - n / 2 - 1))
+  unfolding halves pick
+  halves-turn lo n o k e =
+      let s : halves f h list name n lo n ≡ halves f h list name (suc n) lo n = halves-enough n (suc n) lo n (omega arith) (omega arith) in
+      let l = halves-enough n (n / 2) lo (n / 2) (omega arith) (omega arith) in
+      let r = halves-enough n (n - n / 2 - 1) (lo + n / 2 + 1) (n - n / 2 - 1) (omega arith) (omega arith) in
+      rw (s, ne-eqb n 0 (λ z. omega arith), ← e, l, r)
 
-pub ruleset slot-loop = (slot-here, slot-more, slot-end)
+  module _ (lo n : ℕ) (x : Found) (o : Order) (more : 0 < n) (e : o ≡ nameOrder f h name (getD list (lo + n / 2) 0)) where
+    pub half-left : o ≡ Less → halves f h list name n lo n ≡ x → halves f h list name (n / 2) lo (n / 2) ≡ x
+    half-left t q = rw t at (sym (halves-turn lo n o more e)) ∙ q
+
+    pub half-here : o ≡ Equal → halves f h list name n lo n ≡ x → At (lo + n / 2) ≡ x
+    half-here t q = rw t at (sym (halves-turn lo n o more e)) ∙ q
+
+    pub half-right : o ≡ Greater → halves f h list name n lo n ≡ x → halves f h list name (n - n / 2 - 1) (lo + n / 2 + 1) (n - n / 2 - 1) ≡ x
+    half-right t q = rw t at (sym (halves-turn lo n o more e)) ∙ q
+
+  pub half-none : (lo n : ℕ) (x : Found) → n ≤ 0 → halves f h list name n lo n ≡ x → Nothing ≡ x
+  half-none lo n x k q = sym (halves-none n lo n k) ∙ q
+
+pub ruleset half-loop = (half-left, half-here, half-right, half-none)

@@ -15,8 +15,7 @@ use Rattle.object.specs.Relocation.{relocationSymbol}
 use Rattle.names.specs.declared.Order.{Order}
 use Rattle.names.specs.declared.Order.the-variants.{Less, Equal, Greater}
 use Rattle.names.specs.Name.{symbolText}
-use Rattle.util.specs.Pick.{three-ways}
-use Rattle.names.specs.OrderLaws.{compare-self, equal-same, compare-turned, turned}
+use Rattle.names.specs.OrderLaws.{compare-self, equal-same}
 use Rattle.externs.specs.Puts.{puts}
 use Rattle.externs.specs.Externs.{orderOf, insertName, externRecords, externsTo, externsBy, Holds}
 use Rattle.externs.specs.declared.Names.{Names}
@@ -24,7 +23,7 @@ use Rattle.externs.specs.declared.Names.the-variants.{TooMany, Count}
 use Rattle.externs.specs.declared.Found.the-variants.{At}
 use Rattle.externs.specs.Slot.{slotOf}
 use Rattle.externs.specs.SlotLaws.{Slot, slot-of-entry}
-use Rattle.externs.specs.Inserting.{In, Rising, Has, Index, in-insert, rise, keep, put-in, insert-grows, member, index-of, rising-at}
+use Rattle.externs.specs.Inserting.{In, Rising, Has, Index, in-insert, rise, keep, put-in, insert-grows, member, index-of, rising-at, rising-once}
 
 -- y is the symbol of a relocation that puts its name, in one of the first m sections
 pub record Put (f : List ℕ) (h : Header) (map : List ℕ) (m y : ℕ) : Type 0 where
@@ -149,20 +148,20 @@ module _ (f : List ℕ) (h : Header) (map : List ℕ) where
 
 -- ---- the list of a file
 module _ (f : List ℕ) (h : Header) (map : List ℕ) where
-  -- sorted strictly by name
+  -- sorted strictly by name; the same by indices
+  pub externs-rise : Rising f h (externsBy f h map)
+  externs-rise = sections-rise f h map (h .sections)
+
   pub externs-sorted : (i j : ℕ) → i < j → j < length (externsBy f h map)
       → orderOf f h (getD (externsBy f h map) i 0) (getD (externsBy f h map) j 0) ≡ Less
-  externs-sorted i j p q = rising-at f h (externsBy f h map) i j (sections-rise f h map (h .sections)) p q
+  externs-sorted i j p q = rising-at f h (externsBy f h map) i j externs-rise p q
 
   -- so no name stands twice
   pub externs-once : (i j : ℕ) → i < length (externsBy f h map) → j < length (externsBy f h map)
       → orderOf f h (getD (externsBy f h map) i 0) (getD (externsBy f h map) j 0) ≡ Equal → i ≡ j
   externs-once i j p q e =
-      let a = symbolText f h (getD (externsBy f h map) i 0) in
-      let b = symbolText f h (getD (externsBy f h map) j 0) in
-      ⊎-elim (λ k. cc (externs-sorted i j k q))
-      (⊎-elim (λ k. k) (λ k. cc (externs-sorted j i k p, compare-turned a b ∙ ap turned e)))
-      (three-ways i j)
+      rising-once f h (externsBy f h map) i j externs-rise p q
+      (equal-same (symbolText f h (getD (externsBy f h map) i 0)) (symbolText f h (getD (externsBy f h map) j 0)) e)
 
   -- every name that a relocation puts is there
   pub externs-all : (i k : ℕ) → i < h .sections → k < relocationCount f h i → puts f h map i k ≡ true

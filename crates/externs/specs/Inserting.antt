@@ -6,13 +6,13 @@ use Prim.Native.Nat.{ℕ, zero, suc, _≤_, _<_, min}
 use native.Mathlib.Nat.{not-suc-le-zero, le-refl, le-trans, le-of-suc-le-suc}
 use native.Mathlib.Omega.{arith}
 use lib.ListN.{length, getD}
-use Rattle.util.specs.Pick.{le-or-lt}
+use Rattle.util.specs.Pick.{le-or-lt, three-ways}
 use Rattle.object.specs.declared.Header.{Header}
 use Rattle.names.specs.declared.Order.{Order}
 use Rattle.names.specs.declared.Order.the-variants.{Less, Equal, Greater}
 use Rattle.names.specs.Bytes.{compareBytes}
 use Rattle.names.specs.Name.{symbolText}
-use Rattle.names.specs.OrderLaws.{equal-same, turned, compare-turned, less-less}
+use Rattle.names.specs.OrderLaws.{equal-same, turned, compare-turned, less-less, less-not-self}
 use Rattle.externs.specs.Externs.{orderOf, byOrder, insertName}
 
 -- ---- a list by its members
@@ -150,3 +150,11 @@ rising-at f h [] i j r p q = absurd (not-suc-le-zero q)
 rising-at f h (x ∷ xs) i zero r p q = absurd (not-suc-le-zero p)
 rising-at f h (x ∷ xs) zero (suc j) r p q = r .0 (getD xs j 0) (member xs j (le-of-suc-le-suc q))
 rising-at f h (x ∷ xs) (suc i) (suc j) r p q = rising-at f h xs i j (r .1) (le-of-suc-le-suc p) (le-of-suc-le-suc q)
+
+-- so no name stands twice
+pub rising-once : (f : List ℕ) (h : Header) (xs : List ℕ) (i j : ℕ) → Rising f h xs → i < length xs → j < length xs
+    → symbolText f h (getD xs i 0) ≡ symbolText f h (getD xs j 0) → i ≡ j
+rising-once f h xs i j r p q e =
+    ⊎-elim (λ k. absurd (less-not-self (symbolText f h (getD xs j 0)) (rw e at (rising-at f h xs i j r k q))))
+    (⊎-elim (λ k. k) (λ k. absurd (less-not-self (symbolText f h (getD xs j 0)) (rw e at (rising-at f h xs j i r k p)))))
+    (three-ways i j)

@@ -5,3 +5,5 @@ pub mod Slot
 pub mod SlotLaws
 pub mod Inserting
 pub mod ExternLaws
+pub mod Bisect
+pub mod BisectLaws

@@ -10,7 +10,7 @@ ghost use Rattle.object.specs.Section.{relocationCount};
 ghost use Rattle.externs.specs.Puts.{hasName, sectionNamed, outside, missing, isCommon, putsBy, putsName, isOwn, puts};
 ghost use Rattle.externs.specs.Externs.{orderOf, externRecords, externsBy, Holds};
 ghost use Rattle.externs.specs.Held.{held, putAt, lowerAt, Placed, Inserted};
-ghost use Rattle.externs.specs.Slot.{isNamed, slotOf};
+ghost use Rattle.externs.specs.Bisect.{nameOrder, bisect};
 
 // How many names there are, or more than the limit.
 pub enum Names {
@@ -253,23 +253,34 @@ pub fn collect(f: &[u8], h: Header, map: &[u8], set: &mut [u32; 1025]) -> Names
     fill(f, h, map, set)
 }
 
-// Symbol x has that name.
-fn is_named(f: &[u8], h: Header, name: &[u8], x: u32) -> bool
-    ensures { λ r. ⌜ r ≡ isNamed (now (f .entry)) h (now (name .entry)) x ⌝ }
+// The order of a name and that of symbol x.
+fn name_order(f: &[u8], h: Header, name: &[u8], x: u32) -> Order
+    ensures { λ r. ⌜ r ≡ nameOrder (now (f .entry)) h (now (name .entry)) x ⌝ }
 {
-    names::same(names::symbol_text(f, h, x), name)
+    names::compare(name, names::symbol_text(f, h, x))
 }
 
-// The slot of a name: its index in the list of externs.
+// The slot of a name: its index in the list of externs, which is sorted. Of the n entries from lo the middle one decides.
 pub fn slot_of(f: &[u8], h: Header, set: &[u32], name: &[u8]) -> Found
-    ensures { λ r. ⌜ r ≡ slotOf (now (f .entry)) h (now (set .entry)) (now (name .entry)) ⌝ }
+    ensures { λ r. ⌜ r ≡ bisect (now (f .entry)) h (now (set .entry)) (now (name .entry)) ⌝ }
 {
-    let mut i: usize = 0;
-    while i < set.len() {
-        if is_named(f, h, name, set[i]) {
-            return Found::At(i);
+    let mut lo: usize = 0;
+    let mut n = set.len();
+    while 0 < n {
+        let half = n / 2;
+        let middle = lo + half;
+        match name_order(f, h, name, set[middle]) {
+            Order::Less => {
+                n = half;
+            }
+            Order::Equal => {
+                return Found::At(middle);
+            }
+            Order::Greater => {
+                lo = middle + 1;
+                n = n - half - 1;
+            }
         }
-        i += 1;
     }
     Found::Nothing
 }

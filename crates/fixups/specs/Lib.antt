@@ -1,2 +1,5 @@
 pub mod Target
 pub mod Outcome
+pub mod Value
+pub mod Tally
+pub mod Tallying

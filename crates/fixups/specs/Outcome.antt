@@ -11,30 +11,33 @@ use Rattle.object.specs.declared.RelocationKind.{RelocationKind}
 use Rattle.object.specs.declared.RelocationKind.the-variants.{Absolute, ImageOffset, SectionOffset, Relative, NotCarried, Unknown}
 use Rattle.object.specs.declared.RelocationType.{RelocationType}
 use Rattle.object.specs.Relocation.{relocationAddress, relocationSymbol, relocationType, typeOf}
+use Rattle.externs.specs.declared.Found.{Found}
 use Rattle.externs.specs.Puts.{isOwn}
+use Rattle.fixups.specs.declared.Skip.{Skip}
+use Rattle.fixups.specs.declared.Skip.the-variants.{NoSymbol, NoHome, NoSlot, NoType}
 use Rattle.fixups.specs.declared.Target.{Target}
 use Rattle.fixups.specs.declared.Target.the-variants.{Home, Named, Slot, Missing, Refused}
 use Rattle.fixups.specs.declared.Fix.{Fix}
 use Rattle.fixups.specs.declared.Outcome.{Outcome}
 use Rattle.fixups.specs.declared.Outcome.the-variants.{Passed, Skipped, TurnedDown, Fixup}
-use Rattle.fixups.specs.Target.{targetOf, NO-SYMBOL, NO-TYPE}
+use Rattle.fixups.specs.Target.{targetOf}
 
--- with the place and the target known, the type decides: an unknown one is skipped, one that is not carried refused
-abbrev pub carried : RelocationKind → ℕ
-carried Absolute = 0
-carried ImageOffset = 0
-carried SectionOffset = 0
-carried Relative = 0
-carried NotCarried = 1
-carried Unknown = 2
+-- with place and target known, the type decides: an unknown one is skipped, one that is not carried is refused
+unfoldable pub byKind : RelocationKind → Fix → Outcome
+byKind Absolute x = Fixup x
+byKind ImageOffset x = Fixup x
+byKind SectionOffset x = Fixup x
+byKind Relative x = Fixup x
+byKind NotCarried x = TurnedDown
+byKind Unknown x = Skipped NoType
 
-unfoldable pub fixAt : RelocationType → ℕ → ℕ → Outcome
-fixAt t place target =
-    pick (eqb (carried (t .kind)) 2) (Skipped NO-TYPE)
-    (pick (eqb (carried (t .kind)) 1) TurnedDown
-    (Fixup (record { place = place; bits = t .bits; kind = t .kind; target = target; addend = t .addend })))
+abbrev pub fixOf : RelocationType → ℕ → ℕ → Fix
+fixOf t place target = record { place = place; bits = t .bits; kind = t .kind; target = target; addend = t .addend }
 
--- a target that is refused, whatever the type; one that is missing, whatever the type; else the type decides
+abbrev pub fixAt : RelocationType → ℕ → ℕ → Outcome
+fixAt t place target = byKind (t .kind) (fixOf t place target)
+
+-- a target that is refused, or missing, is so whatever the type
 unfoldable pub resolved : Target → RelocationType → ℕ → Outcome
 resolved (Home o) t place = fixAt t place o
 resolved (Named o) t place = fixAt t place o
@@ -42,14 +45,16 @@ resolved (Slot o) t place = fixAt t place o
 resolved (Missing k) t place = Skipped k
 resolved Refused t place = TurnedDown
 
-module _ (arch : Arch) (f : List ℕ) (h : Header) (map homes : List ℕ) (undef : ℕ) (set : List ℕ) where
-  -- the symbol of relocation (i, k): no record of that number is K1, an auxiliary record is refused
+module _ (f : List ℕ) (h : Header) (map homes : List ℕ) (undef : ℕ) (slot : List ℕ → Found) where
+  -- by the symbol's number j: no record of that number is K1; an auxiliary record is refused
   unfoldable pub bySymbol : ℕ → RelocationType → ℕ → Outcome
   bySymbol j t place =
-      pick (leb (h .symbols) j) (Skipped NO-SYMBOL) (pick (isOwn map j) (resolved (targetOf f h homes undef set j) t place) TurnedDown)
+      pick (leb (h .symbols) j) (Skipped NoSymbol) (pick (isOwn map j) (resolved (targetOf f h homes undef slot j) t place) TurnedDown)
 
+module _ (arch : Arch) (f : List ℕ) (h : Header) (map homes : List ℕ) (undef : ℕ) (slot : List ℕ → Found) where
   -- relocations of a section without a home are passed; the place is the home's start and the address field
   unfoldable pub outcome : ℕ → ℕ → Outcome
   outcome i k =
       pick (eqb (getD homes i 0) 0) Passed
-      (bySymbol (relocationSymbol f h i k) (typeOf arch (relocationType f h i k)) (getD homes i 0 - 1 + relocationAddress f h i k))
+      (bySymbol f h map homes undef slot (relocationSymbol f h i k) (typeOf arch (relocationType f h i k))
+      (getD homes i 0 - 1 + relocationAddress f h i k))

@@ -1,12 +1,29 @@
-// What becomes of each relocation, from get_coff_fixups. Places and targets are offsets from the base. So far the definitions, in specs/, and their types.
+// What becomes of each relocation, from get_coff_fixups. Places and targets are offsets from the base; the base enters in `value` alone.
+mod outcomes;
+mod tallies;
+mod targets;
+
 use object::RelocationKind;
+pub use outcomes::outcome_of;
+pub use outcomes::value;
+pub use tallies::tally_of;
+pub use targets::cell_of_number;
+pub use targets::target_of;
+
+// Why a relocation is skipped: K1 to K4.
+pub enum Skip {
+    NoSymbol,
+    NoHome,
+    NoSlot,
+    NoType,
+}
 
 // What a symbol comes to: its section's home, a section found by name, a slot; a reason to skip; or a refusal.
 pub enum Target {
     Home(u64),
     Named(u64),
     Slot(u64),
-    Missing(u64),
+    Missing(Skip),
     Refused,
 }
 
@@ -21,7 +38,16 @@ pub struct Fix {
 
 pub enum Outcome {
     Passed,
-    Skipped(u64),
+    Skipped(Skip),
     TurnedDown,
     Fixup(Fix),
+}
+
+// How many relocations came to each outcome, and how many fixups have a byte outside the mapped pages.
+pub struct Tally {
+    pub passed: u64,
+    pub skips: u64,
+    pub refused: u64,
+    pub fixups: u64,
+    pub outside: u64,
 }

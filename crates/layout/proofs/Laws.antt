@@ -20,6 +20,7 @@ use Rattle.layout.specs.declared.Home.{Home}
 use Rattle.layout.specs.declared.Home.the-variants.{At, Undef, Nowhere}
 use Rattle.layout.specs.Layout.{nextStart, startAt, undefStart, recordOf, tableRecords}
 use Rattle.layout.specs.Home.{firstIn, isHome, isNamed, homeOf, homeCell, homesTo}
+use Rattle.layout.specs.HomeLaws.{length-homes}
 
 -- ---- one section further
 pub next-is : (at n r : ℕ) → at < 2 ^ 60 → n < 2 ^ 33 → r ≡ roundUp (at + n) 4096 % 2 ^ 64 → r ≡ roundUp (at + n) 4096
@@ -108,18 +109,13 @@ module _ (f : List ℕ) (h : Header) where
   first-begin p u n e = let d : n - 0 ≡ h .sections = omega arith in rw d
 
   -- ---- all homes
-  length-homes : (n : ℕ) → length (homesTo f h n) ≡ n
-  unfolding homesTo
-  length-homes zero = refl
-  length-homes (suc n) = simp (length-append, length-homes n) (omega arith)
-
   pub homes-none : (l : List ℕ) → l ≡ splice l 0 (homesTo f h 0)
   unfolding splice homesTo
   homes-none l = refl
 
-  pub homes-again : (l b b′ : List ℕ) (i x : ℕ) → b ≡ splice l 0 (homesTo f h i) → x ≡ homeCell f h (homeOf f h i) → b′ ≡ splice b i (x ∷ []) → b′ ≡ splice l 0 (homesTo f h (i + 1))
+  pub homes-again : (l b b′ : List ℕ) (i x : ℕ) → b ≡ splice l 0 (homesTo f h i) → x ≡ homeCell f h (homeOf f h i) → b′ ≡ splice b i (x % 2 ^ 32 ∷ []) → b′ ≡ splice l 0 (homesTo f h (i + 1))
   unfolding homesTo
-  homes-again l b b′ i x e q d = rw (d, e, splice-next l 0 (homesTo f h i) (x ∷ []) i (let z = length-homes i in omega arith), q, add-one)
+  homes-again l b b′ i x e q d = rw (d, e, splice-next l 0 (homesTo f h i) (x % 2 ^ 32 ∷ []) i (let z = length-homes f h i in omega arith), q, add-one)
 
   pub homes-end : (l b : List ℕ) (i n m : ℕ) → b ≡ splice l 0 (homesTo f h i) → i ≤ n → n ≤ i → n ≡ m → b ≡ splice l 0 (homesTo f h m)
   homes-end l b i n m e a c q = let z : i ≡ n = omega arith in cc

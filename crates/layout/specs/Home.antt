@@ -1,7 +1,7 @@
 -- The home of a file section: the first table record with the same file start, UNDEF's among them, whose file start is 0 (01, "Layout, slots and fixups").
 use mathlib.Core.Bool.{Bool, true, false, _&&_}
 use mathlib.Core.List.{List, [], _∷_, _++_}
-use Prim.Native.Nat.{ℕ, zero, suc, _+_}
+use Prim.Native.Nat.{ℕ, zero, suc, _+_, _%_, _^_}
 use lib.Dec.{eqb}
 use Rattle.util.specs.Pick.{pick}
 use Rattle.object.specs.declared.Header.{Header}
@@ -53,6 +53,7 @@ module _ (f : List ℕ) (h : Header) where
   homeCell Undef = undefStart f h + 1
   homeCell Nowhere = 0
 
+  -- the cells of the sections below i, in words of 32 bits: where refusal 8 does not apply, every cell fits (`cell-fits`)
   unfoldable pub homesTo : ℕ → List ℕ
   homesTo zero = []
-  homesTo (suc i) = homesTo i ++ (homeCell (homeOf i) ∷ [])
+  homesTo (suc i) = homesTo i ++ (homeCell (homeOf i) % 2 ^ 32 ∷ [])

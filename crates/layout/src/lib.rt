@@ -132,13 +132,14 @@ pub fn named_cell(f: &[u8], h: Header, name: &[u8]) -> u64
 }
 
 // The homes of all sections, a word each.
-pub fn fill_homes(f: &[u8], h: Header, homes: &mut [u64])
+pub fn fill_homes(f: &[u8], h: Header, homes: &mut [u32])
     ensures { λ _. ⌜ now (homes .exit) ≡ splice (now (homes .entry)) 0 (homesTo (now (f .entry)) h (h .sections)) ⌝ }
 {
     let n = h.sections as u32;
     let mut i: u32 = 0;
     while i < n {
-        le::put_word(homes, i as usize, home_cell(f, h, i));
+        let cell = home_cell(f, h, i) % 0x100000000;
+        le::put_word(homes, i as usize, cell as u32);
         i += 1;
     }
 }

@@ -127,7 +127,13 @@ module _ (s : List ℕ) (from n : ℕ) where
   unfolding part
   part-past h = rw (drop-of-length-le s h) (sym (take-nil n))
 
-pub ruleset parts = (part-here, part-rest, part-past)
+pub front-here : (s : List ℕ) (n : ℕ) → take (n - 0) (drop 0 s) ≡ part s 0 n
+front-here s n = part-here s 0 n n (omega arith)
+
+pub front-all : (s : List ℕ) (n : ℕ) → length s ≤ n → take (length s - 0) (drop 0 s) ≡ part s 0 n
+front-all s n h = part-rest s 0 n (omega arith)
+
+pub ruleset parts = (part-here, part-rest, part-past, front-here, front-all)
 
 -- ---- one byte
 module _ (l : List ℕ) (at v : ℕ) where

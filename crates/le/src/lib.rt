@@ -197,17 +197,23 @@ pub fn put_u64(b: &mut [u8], at: usize, v: u64)
     }
 }
 
-// The same for words: the one at `at`, 0 past the end, and one put there.
-pub fn word_at(s: &[u64], at: usize) -> u64
+// The same for 32-bit words: the one at `at`, 0 past the end; one put there; and the first `n`, as far as there are any.
+pub fn word_at(s: &[u32], at: usize) -> u32
     ensures { λ r. ⌜ r ≡ getD (now (s .entry)) at 0 ⌝ }
 {
     if at < s.len() { s[at] } else { 0 }
 }
 
-pub fn put_word(b: &mut [u64], at: usize, v: u64)
+pub fn put_word(b: &mut [u32], at: usize, v: u32)
     ensures { λ _. ⌜ now (b .exit) ≡ splice (now (b .entry)) at (v ∷ []) ⌝ }
 {
     if at < b.len() {
         b[at] = v;
     }
+}
+
+pub fn words(s: &[u32], n: usize) -> &[u32]
+    ensures { λ r. ⌜ now r ≡ part (now (s .entry)) 0 n ⌝ }
+{
+    if n < s.len() { &s[0..n] } else { &s[0..] }
 }

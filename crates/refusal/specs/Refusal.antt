@@ -22,8 +22,47 @@ unlessRefused zero new old = new
 unlessRefused (suc k) new old = old
 
 -- the numbers (01, "The operations and what they turn down")
+abbrev pub FILE-SIZE : ℕ
+FILE-SIZE = 1
+
+abbrev pub MACHINE : ℕ
+MACHINE = 2
+
+abbrev pub SECTION-TABLE : ℕ
+SECTION-TABLE = 3
+
+abbrev pub SYMBOL-TABLE : ℕ
+SYMBOL-TABLE = 4
+
+abbrev pub SECTION-DATA : ℕ
+SECTION-DATA = 5
+
+abbrev pub NAME : ℕ
+NAME = 6
+
+abbrev pub SECTION-NUMBER : ℕ
+SECTION-NUMBER = 7
+
+abbrev pub PAGES : ℕ
+PAGES = 8
+
+abbrev pub EXTERNS : ℕ
+EXTERNS = 9
+
+abbrev pub TARGET : ℕ
+TARGET = 10
+
+abbrev pub PLACE : ℕ
+PLACE = 11
+
+abbrev pub BASE : ℕ
+BASE = 12
+
 abbrev pub STORAGE : ℕ
 STORAGE = 13
+
+abbrev pub POSITION : ℕ
+POSITION = 14
 
 abbrev pub NOT-MAPPED : ℕ
 NOT-MAPPED = 15

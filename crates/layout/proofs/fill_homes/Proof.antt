@@ -1,8 +1,9 @@
 use borrow.Author.Needs.{needs}
 use Rattle.layout.proofs.Laws.{homes-loop}
+use Rattle.le.specs.Le.{splice-long}
 use Prim.Native.Nat.{_+_, _-_, _*_, _≤_}
 use mathlib.Core.Path.{_≡_}
-use Rattle.le.specs.Le.{splice, splice-long}
+use Rattle.le.specs.Le.{splice}
 use Rattle.layout.specs.Home.{homesTo}
 use Rattle.layout.proofs.fill_homes.Statement.{statement}
 use Rattle.layout.proofs.fill_homes.Tie as tie
@@ -19,13 +20,14 @@ fill-homes-spec =
     (tie.spec
     Inv-loop
     μ-loop
-    (λ c. search (needs, homes-loop))
-    (λ c. search (needs, homes-loop))
-    (λ c. search (needs, homes-loop))
-    (λ c. search (needs, homes-loop))
-    (λ c. search (needs, homes-loop))
-    (λ c. search (needs, homes-loop))
-    (λ c. search (needs, homes-loop))
-    (λ c. search (needs, homes-loop))
-    (λ c. search (needs, splice-long))
-    (λ c. search (needs, homes-loop)))
+    (λ c. search (needs, homes-loop, splice-long))
+    (λ c. search (needs, homes-loop, splice-long))
+    (λ c. search (needs, homes-loop, splice-long))
+    (λ c. search (needs, homes-loop, splice-long))
+    (λ c. search (needs, homes-loop, splice-long))
+    (λ c. search (needs, homes-loop, splice-long))
+    (λ c. search (needs, homes-loop, splice-long))
+    (λ c. search (needs, homes-loop, splice-long))
+    (λ c. search (needs, homes-loop, splice-long))
+    (λ c. search (needs, homes-loop, splice-long))
+    (λ c. search (needs, homes-loop, splice-long)))

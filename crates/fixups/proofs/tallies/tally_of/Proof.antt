@@ -1,0 +1,30 @@
+use borrow.Author.Needs.{needs}
+use Rattle.fixups.proofs.Rows.{rows-loop}
+use Prim.Native.Nat.{_+_, _-_, _*_, _≤_, _^_}
+use mathlib.Core.Path.{_≡_}
+use Rattle.object.specs.Section.{relocationCount}
+use Rattle.externs.specs.Bisect.{bisect}
+use Rattle.fixups.specs.Outcome.{outcome}
+use Rattle.fixups.specs.Tallying.{rowsTo, Within}
+use Rattle.fixups.proofs.tallies.tally_of.Statement.{statement}
+use Rattle.fixups.proofs.tallies.tally_of.Tie as tie
+
+abbrev Inv-loop : tie.InvT-loop
+Inv-loop arch f h map homes undef set pages n sum₀ i₀ sum i = (i ≤ n) × (sum ≡ rowsTo pages (outcome arch f h map homes undef (bisect f h set)) (relocationCount f h) i) × Within sum (2 ^ 32 * i)
+
+abbrev μ-loop : tie.MeasureT-loop
+μ-loop arch f h map homes undef set pages n sum₀ i₀ sum i = n - i
+
+pub tally-of-spec : {M : Type 1} → statement M
+tally-of-spec =
+    tie.close
+    (tie.spec
+    Inv-loop
+    μ-loop
+    (λ c. search (needs, rows-loop))
+    (λ c. search (needs, rows-loop))
+    (λ c. search (needs, rows-loop))
+    (λ c. search (needs, rows-loop))
+    (λ c. search (needs, rows-loop))
+    (λ c. search (needs, rows-loop))
+    (λ c. search (needs, rows-loop)))

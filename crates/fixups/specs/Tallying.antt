@@ -1,0 +1,41 @@
+-- What the parts of the pass promise: a tally after one outcome more, after the first k records of a section, and after the first n sections.
+use mathlib.Core.Path.{_≡_}
+use Prim.Native.Nat.{ℕ, zero, suc, _+_, _*_, _^_, _≤_}
+use Rattle.util.specs.Pick.{pick}
+use Rattle.fixups.specs.declared.Outcome.{Outcome}
+use Rattle.fixups.specs.declared.Tally.{Tally}
+use Rattle.fixups.specs.Tally.{isPassed, isSkipped, isRefused, isFixup, isOutside}
+
+abbrev pub nothing : Tally
+nothing = record { passed = 0; skips = 0; refused = 0; fixups = 0; outside = 0 }
+
+unfoldable pub tallied : ℕ → Tally → Outcome → Tally
+tallied pages t o =
+    record {
+      passed = pick (isPassed o) (t .passed + 1) (t .passed);
+      skips = pick (isSkipped o) (t .skips + 1) (t .skips);
+      refused = pick (isRefused o) (t .refused + 1) (t .refused);
+      fixups = pick (isFixup o) (t .fixups + 1) (t .fixups);
+      outside = pick (isOutside pages o) (t .outside + 1) (t .outside);
+    }
+
+unfoldable pub rowTo : ℕ → (ℕ → ℕ → Outcome) → ℕ → Tally → ℕ → Tally
+rowTo pages o i t zero = t
+rowTo pages o i t (suc k) = tallied pages (rowTo pages o i t k) (o i k)
+
+unfoldable pub rowsTo : ℕ → (ℕ → ℕ → Outcome) → (ℕ → ℕ) → ℕ → Tally
+rowsTo pages o count zero = nothing
+rowsTo pages o count (suc i) = rowTo pages o i (rowsTo pages o count i) (count i)
+
+-- no count is above n
+pub record Within (t : Tally) (n : ℕ) : Type 0 where
+  pub passed : t .passed ≤ n
+  pub skips : t .skips ≤ n
+  pub refused : t .refused ≤ n
+  pub fixups : t .fixups ≤ n
+  pub outside : t .outside ≤ n
+
+-- section i's records counted, with the bound of one section more
+pub record Counted (is : Tally) (i : ℕ) (r : Tally) : Type 0 where
+  pub same : r ≡ is
+  pub near : Within r (2 ^ 32 * (i + 1))

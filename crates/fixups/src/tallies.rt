@@ -1,0 +1,142 @@
+// One pass over all relocations.
+use crate::Fix;
+use crate::Outcome;
+use crate::Tally;
+use crate::outcomes;
+use arch::Arch;
+use arch::PAGE_SIZE;
+use object::Header;
+ghost use mathlib.Core.Path.{_≡_};
+ghost use Prim.Native.Nat.{_+_, _*_, _^_, _<_, _≤_};
+ghost use Rattle.object.specs.Section.{relocationCount};
+ghost use Rattle.externs.specs.Bisect.{bisect};
+ghost use Rattle.fixups.specs.declared.Outcome.the-variants.{Fixup};
+ghost use Rattle.fixups.specs.Outcome.{outcome};
+ghost use Rattle.fixups.specs.Tally.{isMapped, tallyOf};
+ghost use Rattle.fixups.specs.Tallying.{tallied, rowTo, Within, Counted};
+
+// A fixup's bytes lie in the first `pages` pages.
+fn is_mapped(pages: u32, x: Fix) -> bool
+    ensures { λ r. ⌜ r ≡ isMapped pages x ⌝ }
+{
+    util::within(x.place, x.bits / 8, PAGE_SIZE * (pages as u64))
+}
+
+fn with_fixup(pages: u32, t: Tally, x: Fix) -> Tally
+    requires { ⌜ Within t (2 ^ 60) ⌝ }
+    ensures { λ r. ⌜ r ≡ tallied pages t (Fixup x) ⌝ }
+{
+    let fixups = t.fixups + 1;
+    if is_mapped(pages, x) {
+        Tally {
+            passed: t.passed,
+            skips: t.skips,
+            refused: t.refused,
+            fixups: fixups,
+            outside: t.outside,
+        }
+    } else {
+        Tally {
+            passed: t.passed,
+            skips: t.skips,
+            refused: t.refused,
+            fixups: fixups,
+            outside: t.outside + 1,
+        }
+    }
+}
+
+fn with_outcome(pages: u32, t: Tally, o: Outcome) -> Tally
+    requires { ⌜ Within t (2 ^ 60) ⌝ }
+    ensures { λ r. ⌜ r ≡ tallied pages t o ⌝ }
+{
+    match o {
+        Outcome::Passed => {
+            Tally {
+                passed: t.passed + 1,
+                skips: t.skips,
+                refused: t.refused,
+                fixups: t.fixups,
+                outside: t.outside,
+            }
+        }
+        Outcome::Skipped(_) => {
+            Tally {
+                passed: t.passed,
+                skips: t.skips + 1,
+                refused: t.refused,
+                fixups: t.fixups,
+                outside: t.outside,
+            }
+        }
+        Outcome::TurnedDown => {
+            Tally {
+                passed: t.passed,
+                skips: t.skips,
+                refused: t.refused + 1,
+                fixups: t.fixups,
+                outside: t.outside,
+            }
+        }
+        Outcome::Fixup(x) => with_fixup(pages, t, x),
+    }
+}
+
+// The records of section i.
+fn with_section(
+    arch: Arch,
+    f: &[u8],
+    h: Header,
+    map: &[u8],
+    homes: &[u32],
+    undef: u32,
+    set: &[u32],
+    pages: u32,
+    t: Tally,
+    i: u32,
+) -> Tally
+    requires { ⌜ (i < 2 ^ 16) × Within t (2 ^ 32 * i) ⌝ }
+    ensures { λ r. ⌜ Counted (rowTo pages (outcome arch (now (f .entry)) h (now (map .entry)) (now (homes .entry)) undef (bisect (now (f .entry)) h (now (set .entry)))) i t (relocationCount (now (f .entry)) h i)) i r ⌝ }
+{
+    let m = object::relocation_count(f, h, i);
+    let mut sum = t;
+    let mut k: u32 = 0;
+    while k < m {
+        sum = with_outcome(
+            pages,
+            sum,
+            outcomes::outcome_of(arch, f, h, map, homes, undef, set, i, k),
+        );
+        k += 1;
+    }
+    sum
+}
+
+// How many relocations of the file come to each outcome; `pages` are mapped.
+pub fn tally_of(
+    arch: Arch,
+    f: &[u8],
+    h: Header,
+    map: &[u8],
+    homes: &[u32],
+    undef: u32,
+    set: &[u32],
+    pages: u32,
+) -> Tally
+    ensures { λ r. ⌜ r ≡ tallyOf pages (outcome arch (now (f .entry)) h (now (map .entry)) (now (homes .entry)) undef (bisect (now (f .entry)) h (now (set .entry)))) (relocationCount (now (f .entry)) h) (h .sections) ⌝ }
+{
+    let n = h.sections as u32;
+    let mut sum = Tally {
+        passed: 0,
+        skips: 0,
+        refused: 0,
+        fixups: 0,
+        outside: 0,
+    };
+    let mut i: u32 = 0;
+    while i < n {
+        sum = with_section(arch, f, h, map, homes, undef, set, pages, sum, i);
+        i += 1;
+    }
+    sum
+}

@@ -1,0 +1,262 @@
+-- The ways through the code. Assumes nothing.
+use mathlib.Core.Path.{_≡_, refl, sym, ap, _∙_, fun-ext}
+use mathlib.Core.Bool.{Bool, true, false, not, _&&_}
+use mathlib.Core.List.{List, [], _∷_, _++_}
+use Prim.Native.Nat.{ℕ, zero, suc, _+_, _-_, _*_, _/_, _≤_, _<_, _%_, _^_}
+use native.Mathlib.Omega.{arith}
+use native.Mathlib.Numerals.{add-one}
+use lib.Dec.{eqb, leb}
+use lib.ListN.{getD, length, take, drop, replicate, length-replicate, length-take}
+use borrow.Author.Tests.{eq-eqb, ne-eqb, le-leb, lt-leb, not-true, not-false, leb-true}
+use Rattle.refusal.specs.Refusal.{EXTERNS, TARGET, PLACE}
+use mathlib.Core.Logic.{_⊎_, ⊎-elim}
+use Rattle.util.specs.Pick.{pick, yes-no, and-left}
+use Rattle.util.specs.Prefix.{countTo}
+use Rattle.arch.specs.declared.Arch.{Arch}
+use Rattle.arch.specs.declared.Arch.the-variants.{X32, X64}
+use Rattle.arch.specs.declared.Machine.{Machine}
+use Rattle.arch.specs.declared.Machine.the-variants.{Known, Unknown}
+use Rattle.arch.specs.Machine.{archOf}
+use Rattle.arch.specs.Page.{pageOf}
+use Rattle.le.specs.Le.{get, splice, part, part-splice}
+use Rattle.checks.specs.Checks.{sectionTableOk, symbolTableOk, stringsOk}
+use Rattle.object.specs.declared.Header.{Header}
+use Rattle.object.specs.declared.Place.{Place}
+use Rattle.object.specs.declared.Place.the-variants.{In, Undefined, Common, Absolute, Nowhere, Other}
+use Rattle.object.specs.Format.{headerOf}
+use Rattle.object.specs.Symbol.{primaries, symbolPlace, listedValue}
+use Rattle.object.specs.SymbolLaws.{length-primaries}
+use Rattle.layout.specs.Layout.{undefStart, mappedPages}
+use Rattle.layout.specs.Home.{homesTo}
+use Rattle.layout.specs.HomeLaws.{length-homes}
+use Rattle.externs.specs.declared.Names.{Names}
+use Rattle.externs.specs.declared.Names.the-variants.{TooMany, Count}
+use Rattle.externs.specs.Puts.{isOwn}
+use Rattle.externs.specs.Bisect.{bisect}
+use Rattle.externs.specs.Externs.{externs, externsBy, Holds}
+use Rattle.externs.specs.Slot.{slotOf}
+use Rattle.externs.specs.BisectLaws.{bisect-externs}
+use Rattle.fixups.specs.declared.Tally.{Tally}
+use Rattle.survey.specs.declared.answer.Counts.{Counts}
+use Rattle.survey.specs.declared.answer.Survey.{Survey}
+use Rattle.survey.specs.declared.answer.Survey.the-variants.{Accepted, Refused}
+use Rattle.survey.specs.Listed.{cellOf, listed, listedOffset, listedTotal}
+use Rattle.survey.specs.Survey.{Check, check, firstFailed, recordChecks, targetChecks, externChecks, archBy, tallyBy, countsBy, ownMap, homes, tally, checks, counts, answerBy, surveyOf}
+use Rattle.survey.specs.SurveyLaws.{Ordered, ordered, failed-first}
+use Rattle.survey.specs.Surveying.{Fits, answerFor, answerWith}
+
+-- ---- listed symbols
+module _ (homes : List ℕ) (p : Place) where
+  pub cell-in : (n r : ℕ) → p ≡ In n → r ≡ getD homes (n - 1) 0 → r ≡ cellOf homes p
+  unfolding cellOf
+  cell-in n r e q = rw e q
+
+  pub cell-undefined : p ≡ Undefined → 0 ≡ cellOf homes p
+  unfolding cellOf
+  cell-undefined e = rw e
+
+  pub cell-common : p ≡ Common → 0 ≡ cellOf homes p
+  unfolding cellOf
+  cell-common e = rw e
+
+  pub cell-absolute : p ≡ Absolute → 0 ≡ cellOf homes p
+  unfolding cellOf
+  cell-absolute e = rw e
+
+  pub cell-nowhere : p ≡ Nowhere → 0 ≡ cellOf homes p
+  unfolding cellOf
+  cell-nowhere e = rw e
+
+  pub cell-other : p ≡ Other → 0 ≡ cellOf homes p
+  unfolding cellOf
+  cell-other e = rw e
+
+pub ruleset cells = (cell-in, cell-undefined, cell-common, cell-absolute, cell-nowhere, cell-other)
+
+module _ (f : List ℕ) (h : Header) (map homes : List ℕ) (j : ℕ) (b : Bool) where
+  pub listed-own : (p : Place) (r : ℕ) → b ≡ isOwn map j → b ≡ true → p ≡ symbolPlace f h j → r ≡ cellOf homes p → not (eqb r 0) ≡ listed f h map homes j
+  unfolding listed
+  listed-own p r q e d w = rw (← q, e, ← d, ← w)
+
+  pub listed-auxiliary : b ≡ isOwn map j → b ≡ false → false ≡ listed f h map homes j
+  unfolding listed
+  listed-auxiliary q e = rw (← q, e)
+
+pub ruleset listing = (listed-own, listed-auxiliary)
+
+module _ (f : List ℕ) (h : Header) (homes : List ℕ) (j c v : ℕ) (p : Place) where
+  pub offset-none : p ≡ symbolPlace f h j → c ≡ cellOf homes p → v ≡ listedValue f h j → c ≡ 0 → v ≡ listedOffset f h homes j
+  offset-none q w e z = rw (← q, ← w, ← e, z) (omega arith)
+
+  pub offset-some : p ≡ symbolPlace f h j → c ≡ cellOf homes p → v ≡ listedValue f h j → (c ≡ 0 → ⊥) → c - 1 + v ≡ listedOffset f h homes j
+  offset-some q w e z = rw (← q, ← w, ← e)
+
+pub ruleset offsets = (offset-none, offset-some)
+
+module _ (p : ℕ → Bool) where
+  pub count-none : 0 ≡ countTo p 0
+  unfolding countTo
+  count-none = refl
+
+  pub count-yes : (j c : ℕ) (r : Bool) → c ≡ countTo p j → r ≡ p j → r ≡ true → c + 1 ≡ countTo p (j + 1)
+  unfolding countTo pick
+  count-yes j c r e q d = rw (add-one j, ← e, ← q, d)
+
+  pub count-no : (j c : ℕ) (r : Bool) → c ≡ countTo p j → r ≡ p j → r ≡ false → c ≡ countTo p (j + 1)
+  unfolding countTo pick
+  count-no j c r e q d = rw (add-one j, ← e, ← q, d) (omega arith)
+
+  pub count-end : (j n m c : ℕ) → c ≡ countTo p j → j ≤ n → n ≤ j → n ≡ m → c ≡ countTo p m
+  count-end j n m c e a b q = let z : j ≡ m = omega arith in cc
+
+pub ruleset count-loop = (count-none, count-yes, count-no, count-end)
+
+-- ---- the chain of checks
+module _ (ok r : Bool) (n : ℕ) (cs : List Check) where
+  pub check-pass : (x : ℕ) → r ≡ ok → not r ≡ false → x ≡ firstFailed cs → x ≡ firstFailed (check ok n ∷ cs)
+  unfolding firstFailed pick
+  check-pass x q e d = let z : ok ≡ true = cc (not-false r e) in rw z d
+
+  pub check-fail : r ≡ ok → not r ≡ true → n ≡ firstFailed (check ok n ∷ cs)
+  unfolding firstFailed pick
+  check-fail q e = let z : ok ≡ false = cc (not-true r e) in rw z
+
+pub checks-end : 0 ≡ firstFailed []
+unfolding firstFailed
+checks-end = refl
+
+pub ruleset chain = (check-pass, check-fail, checks-end)
+
+-- ---- the machine, UNDEF and the pages in 32 bits
+module _ (k : ℕ) (m : Machine) where
+  pub machine-known : (a : Arch) → m ≡ archOf k → m ≡ Known a → a ≡ archBy (archOf k)
+  machine-known a q e = rw (← q, e)
+
+  pub machine-unknown : m ≡ archOf k → m ≡ Unknown → X32 ≡ archBy (archOf k)
+  machine-unknown q e = rw (← q, e)
+
+pub ruleset machines = (machine-known, machine-unknown)
+
+module _ (f : List ℕ) (h : Header) (x : ℕ) where
+  pub undef-fits : x ≡ undefStart f h → mappedPages f h ≤ 4096 → x % 4294967296 ≡ undefStart f h
+  undef-fits e p = omega arith
+
+  pub pages-fit : x ≡ mappedPages f h → mappedPages f h ≤ 4096 → x % 4294967296 ≡ mappedPages f h
+  pages-fit e p = omega arith
+
+pub ruleset fitting = (undef-fits, pages-fit)
+
+-- ---- the answer
+module _ (t : Tally) (c : Counts) where
+  pub verdict-yes : eqb (t .refused) 0 ≡ true → eqb (t .outside) 0 ≡ true → Accepted c ≡ answerBy (firstFailed (targetChecks t)) c
+  unfolding answerBy firstFailed pick
+  verdict-yes e d = rw (e, d)
+
+  pub verdict-outside : eqb (t .refused) 0 ≡ true → eqb (t .outside) 0 ≡ false → Refused PLACE ≡ answerBy (firstFailed (targetChecks t)) c
+  unfolding answerBy firstFailed pick
+  verdict-outside e d = rw (e, d)
+
+  pub verdict-refused : eqb (t .refused) 0 ≡ false → Refused TARGET ≡ answerBy (firstFailed (targetChecks t)) c
+  unfolding answerBy firstFailed pick
+  verdict-refused e = rw e
+
+pub ruleset verdicts = (verdict-yes, verdict-outside, verdict-refused)
+
+-- ---- the extern names
+fits-take : (l : List ℕ) (n : ℕ) → part l 0 n ≡ take n l
+unfolding part
+fits-take l n = refl
+
+module _ (f : List ℕ) (h : Header) (map homes s : List ℕ) (r : Names) where
+  pub externs-over : Holds (externsBy f h map) s r → r ≡ TooMany → Refused EXTERNS ≡ answerWith f h map homes
+  unfolding Holds answerBy firstFailed pick
+  externs-over k e =
+      let z : 1024 < length (externsBy f h map) = rw e at k in
+      rw (lt-leb (length (externsBy f h map)) 1024 z)
+
+  pub externs-fit : (n : ℕ) (w : List ℕ) (x : Survey) → Holds (externsBy f h map) s r → r ≡ Count n → w ≡ part s 0 n
+      → x ≡ answerBy (firstFailed (targetChecks (tallyBy f h map homes (bisect f h w)))) (countsBy f h map homes (length w) (tallyBy f h map homes (bisect f h w)))
+      → x ≡ answerWith f h map homes
+  unfolding Holds firstFailed pick
+  externs-fit n w x k e q d =
+      let z : (n ≤ 1024) × (take n s ≡ externsBy f h map) = rw e at k in
+      let g : w ≡ externsBy f h map = q ∙ fits-take s n ∙ z .1 in
+      let m : length (externsBy f h map) ≤ 1024 = rw (← z .1, length-take) (omega (arith, z .0)) in
+      rw (le-leb (length (externsBy f h map)) 1024 m) (rw g at d)
+
+pub ruleset extern-ways = (externs-over, externs-fit)
+
+-- ---- the arrays
+part-whole : (z vs : List ℕ) (n : ℕ) → length vs ≡ n → n ≤ length z → part (splice z 0 vs) 0 n ≡ vs
+part-whole z vs n e k = rw (← e) (part-splice z 0 vs (omega arith))
+
+filled : (vs m w : List ℕ) (size n : ℕ) → m ≡ splice (replicate size 0) 0 vs → length vs ≡ n → n ≤ size → w ≡ part m 0 n → w ≡ vs
+filled vs m w size n e l k q =
+    let r : length {A = ℕ} (replicate size 0) ≡ size = length-replicate {A = ℕ} size 0 in
+    q ∙ ap (λ (x : List ℕ). part x 0 n) e ∙ part-whole (replicate size 0) vs n l (omega arith)
+
+module _ (f : List ℕ) (h : Header) (x : Survey) where
+  pub map-filled : (hs m w : List ℕ) → m ≡ splice (replicate 16384 0) 0 (primaries f h (h .symbols)) → h .symbols ≤ 16384 → w ≡ part m 0 (h .symbols)
+      → x ≡ answerWith f h w hs → x ≡ answerWith f h (ownMap f h) hs
+  map-filled hs m w e k q d =
+      let g : w ≡ ownMap f h = filled (ownMap f h) m w 16384 (h .symbols) e (length-primaries f h (h .symbols)) k q in
+      d ∙ ap (λ (l : List ℕ). answerWith f h l hs) g
+
+  pub homes-filled : (map m w : List ℕ) → m ≡ splice (replicate 256 0) 0 (homesTo f h (h .sections)) → h .sections ≤ 256 → w ≡ part m 0 (h .sections)
+      → x ≡ answerWith f h map w → x ≡ answerWith f h map (homes f h)
+  homes-filled map m w e k q d =
+      let g : w ≡ homes f h = filled (homes f h) m w 256 (h .sections) e (length-homes f h (h .sections)) k q in
+      d ∙ ap (λ (l : List ℕ). answerWith f h map l) g
+
+pub ruleset arrays = (map-filled, homes-filled)
+
+-- ---- the whole
+records-rest : (f : List ℕ) (h : Header) (cs : List Check) → Ordered f h → firstFailed (recordChecks f h ++ cs) ≡ firstFailed cs
+unfolding firstFailed pick
+records-rest f h cs o = rw (o .size, o .machine, o .sectionTable, o .symbolTable, o .sections, o .names, o .numbers, o .pages)
+
+no-table : (f : List ℕ) → eqb ((headerOf f) .«symbol_table») 0 ≡ true → (headerOf f) .symbols ≡ 0
+unfolding headerOf pick
+no-table f e = rw e
+
+few-symbols : (f : List ℕ) (h : Header) → h ≡ headerOf f → symbolTableOk f h ≡ true → h .symbols ≤ 16384
+unfolding symbolTableOk
+few-symbols f h q e =
+    ⊎-elim (λ t. let z : h .symbols ≡ 0 = rw q (no-table f (rw q at t)) in omega arith)
+    (λ t. leb-true (h .symbols) 16384 (and-left (leb (h .symbols) 16384) _ (rw t at e)))
+    (yes-no (eqb (h .«symbol_table») 0))
+
+few-sections : (f : List ℕ) (h : Header) → sectionTableOk f h ≡ true → h .sections ≤ 256
+unfolding sectionTableOk
+few-sections f h e = leb-true (h .sections) 256 (and-left (leb (h .sections) 256) _ e)
+
+says-refused : (code : ℕ) (c : Counts) → (code ≡ 0 → ⊥) → Refused code ≡ answerBy code c
+unfolding answerBy pick
+says-refused code c z = rw (ne-eqb code 0 z)
+
+refused-by : (f : List ℕ) (h : Header) (code : ℕ) → code ≡ firstFailed (recordChecks f h) → (code ≡ 0 → ⊥) → Refused code ≡ answerBy (firstFailed (checks f h)) (counts f h)
+refused-by f h zero e z = absurd (z refl)
+refused-by f h (suc n) e z =
+    let g : firstFailed (checks f h) ≡ suc n = failed-first (recordChecks f h) (externChecks (length (externs f h)) ++ targetChecks (tally f h)) n (sym e) in
+    says-refused (suc n) (counts f h) z ∙ ap (λ (k : ℕ). answerBy k (counts f h)) (sym g)
+
+module _ (f : List ℕ) (h : Header) (code : ℕ) where
+  pub fits-is : h ≡ headerOf f → code ≡ firstFailed (recordChecks f h) → code ≡ 0 → Fits f h
+  fits-is q e z =
+      let o : Ordered f h = ordered f h [] (sym e ∙ z) in
+      record {
+        sections = few-sections f h (o .sectionTable);
+        symbols = few-symbols f h q (o .symbolTable);
+        pages = leb-true (mappedPages f h) 4096 (o .pages);
+      }
+
+  pub survey-yes : (x : Survey) → h ≡ headerOf f → code ≡ firstFailed (recordChecks f h) → code ≡ 0 → x ≡ answerWith f h (ownMap f h) (homes f h) → x ≡ surveyOf f
+  survey-yes x q e z d =
+      let o : Ordered f h = ordered f h [] (sym e ∙ z) in
+      let b : bisect f h (externsBy f h (ownMap f h)) ≡ slotOf f h (externsBy f h (ownMap f h)) = fun-ext (bisect-externs f h (ownMap f h)) in
+      rw (← q, records-rest f h (externChecks (length (externs f h)) ++ targetChecks (tally f h)) o) (rw b at d)
+
+  pub survey-no : h ≡ headerOf f → code ≡ firstFailed (recordChecks f h) → (code ≡ 0 → ⊥) → Refused code ≡ surveyOf f
+  survey-no q e z = rw (← q) (refused-by f h code e z)
+
+pub ruleset whole = (fits-is, survey-yes, survey-no)

@@ -1,0 +1,13 @@
+use borrow.Author.Needs.{needs}
+use Rattle.survey.proofs.tally_by.Statement.{statement}
+use Rattle.survey.proofs.tally_by.Tie as tie
+
+pub tally-by-spec : {M : Type 1} → statement M
+tally-by-spec =
+    tie.close
+    (tie.spec
+    (λ c. search needs)
+    (λ c. search needs)
+    (λ c. search needs)
+    (λ c. search needs)
+    (λ c. cc))

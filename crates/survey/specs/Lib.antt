@@ -1,0 +1,4 @@
+pub mod Listed
+pub mod Survey
+pub mod Surveying
+pub mod SurveyLaws
