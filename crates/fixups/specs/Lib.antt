@@ -3,3 +3,6 @@ pub mod Outcome
 pub mod Value
 pub mod Tally
 pub mod Tallying
+pub mod Lists
+pub mod TallyLaws
+pub mod OutcomeLaws

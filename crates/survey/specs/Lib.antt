@@ -2,3 +2,4 @@ pub mod Listed
 pub mod Survey
 pub mod Surveying
 pub mod SurveyLaws
+pub mod Acceptance

@@ -1,0 +1,154 @@
+-- What a fixup tells of its relocation, for every file and every map, homes and slots.
+use mathlib.Core.Path.{_≡_, refl, sym, ap, _∙_}
+use mathlib.Core.Bool.{Bool, true, false, _&&_, _||_}
+use mathlib.Core.List.{List}
+use mathlib.Core.Logic.{_⊎_, inl, inr, ⊎-elim}
+use Prim.Native.Nat.{ℕ, _+_, _-_, _*_, _≤_, _<_}
+use native.Mathlib.Omega.{arith}
+use lib.Dec.{eqb, leb, ltb}
+use lib.ListN.{getD}
+use borrow.Author.Tests.{leb-false}
+use Rattle.util.specs.Pick.{pick, yes-no}
+use Rattle.arch.specs.declared.Arch.{Arch}
+use Rattle.arch.specs.declared.Arch.the-variants.{X32, X64}
+use Rattle.object.specs.declared.Header.{Header}
+use Rattle.object.specs.declared.RelocationKind.{RelocationKind}
+use Rattle.object.specs.declared.RelocationKind.the-variants.{Absolute, ImageOffset, SectionOffset, Relative, NotCarried, Unknown}
+use Rattle.object.specs.declared.RelocationType.{RelocationType}
+use Rattle.object.specs.Relocation.{relocationAddress, relocationSymbol, relocationType, type32, type64, typeOf}
+use Rattle.externs.specs.declared.Found.{Found}
+use Rattle.externs.specs.Puts.{isOwn}
+use Rattle.fixups.specs.declared.Skip.{Skip}
+use Rattle.fixups.specs.declared.Skip.the-variants.{NoSymbol, NoHome, NoSlot, NoType}
+use Rattle.fixups.specs.declared.Target.{Target}
+use Rattle.fixups.specs.declared.Target.the-variants.{Home, Named, Slot, Missing, Refused}
+use Rattle.fixups.specs.declared.Fix.{Fix}
+use Rattle.fixups.specs.declared.Outcome.{Outcome}
+use Rattle.fixups.specs.declared.Outcome.the-variants.{Passed, Skipped, TurnedDown, Fixup}
+use Rattle.fixups.specs.Target.{targetOf}
+use Rattle.fixups.specs.Outcome.{byKind, fixOf, fixAt, resolved, bySymbol, outcome}
+
+-- ---- the types that are carried have 32 or 64 bits
+pub record HasBits (t : RelocationType) : Type 0 where
+  pub carried : (t .kind ≡ NotCarried) ⊎ ((t .kind ≡ Unknown) ⊎ ((t .bits ≡ 32) ⊎ (t .bits ≡ 64)))
+
+bits-32 : (t : RelocationType) → t .bits ≡ 32 → HasBits t
+bits-32 t e = record { carried = inr (inr (inl e)) }
+
+bits-64 : (t : RelocationType) → t .bits ≡ 64 → HasBits t
+bits-64 t e = record { carried = inr (inr (inr e)) }
+
+bits-none : (t : RelocationType) → t .kind ≡ NotCarried → HasBits t
+bits-none t e = record { carried = inl e }
+
+bits-unknown : (t : RelocationType) → t .kind ≡ Unknown → HasBits t
+bits-unknown t e = record { carried = inr (inl e) }
+
+either : (b : Bool) (s t : RelocationType) → HasBits s → HasBits t → HasBits (pick b s t)
+unfolding pick
+either true s t x y = x
+either false s t x y = y
+
+has-bits-32 : (t : ℕ) → HasBits (type32 t)
+unfolding type32
+has-bits-32 t =
+    either _ _ _ (bits-32 _ refl) (either _ _ _ (bits-32 _ refl) (either _ _ _ (bits-32 _ refl) (either _ _ _ (bits-32 _ refl) (either _ _ _ (bits-none _ refl) (bits-unknown _ refl)))))
+
+has-bits-64 : (t : ℕ) → HasBits (type64 t)
+unfolding type64
+has-bits-64 t =
+    either _ _ _ (bits-32 _ refl)
+    (either _ _ _ (bits-64 _ refl)
+    (either _ _ _ (bits-32 _ refl)
+    (either _ _ _ (bits-32 _ refl)
+    (either _ _ _ (bits-32 _ refl)
+    (either _ _ _ (bits-none _ refl)
+    (bits-unknown _ refl))))))
+
+pub has-bits : (a : Arch) (t : ℕ) → HasBits (typeOf a t)
+unfolding typeOf
+has-bits X32 t = has-bits-32 t
+has-bits X64 t = has-bits-64 t
+
+-- ---- a fixup is its relocation's type at its place, with the target that the symbol comes to
+pub record Reaches (g : Target) (o : ℕ) : Type 0 where
+  pub way : (g ≡ Home o) ⊎ ((g ≡ Named o) ⊎ (g ≡ Slot o))
+
+by-fix : (k : RelocationKind) (x y : Fix) → byKind k x ≡ Fixup y → x ≡ y
+unfolding byKind
+by-fix Absolute x y e = cc
+by-fix ImageOffset x y e = cc
+by-fix SectionOffset x y e = cc
+by-fix Relative x y e = cc
+by-fix NotCarried x y e = cc
+by-fix Unknown x y e = cc
+
+by-bits : (t : RelocationType) (x y : Fix) → HasBits t → byKind (t .kind) x ≡ Fixup y → (t .bits ≡ 32) ⊎ (t .bits ≡ 64)
+unfolding byKind
+by-bits t x y b e =
+    ⊎-elim (λ n. absurd (let z : TurnedDown ≡ Fixup y = rw n at e in let w : _≡_ {A = ℕ} 0 1 = cc in omega arith))
+    (⊎-elim (λ n. absurd (let z : Skipped NoType ≡ Fixup y = rw n at e in let w : _≡_ {A = ℕ} 0 1 = cc in omega arith)) (λ r. r))
+    (b .carried)
+
+pub record Resolved (g : Target) (t : RelocationType) (place : ℕ) (x : Fix) : Type 0 where
+  pub reaches : Reaches g (x .target)
+  pub is : x ≡ fixOf t place (x .target)
+  pub bits : (x .bits ≡ 32) ⊎ (x .bits ≡ 64)
+
+fix-of : (g : Target) (t : RelocationType) (place o : ℕ) (x : Fix) → HasBits t → Reaches g o → fixAt t place o ≡ Fixup x → Resolved g t place x
+fix-of g t place o x b r e =
+    let q : fixOf t place o ≡ x = by-fix (t .kind) (fixOf t place o) x e in
+    let z : o ≡ x .target = ap (λ (y : Fix). y .target) q in
+    let w : t .bits ≡ x .bits = ap (λ (y : Fix). y .bits) q in
+    record {
+      reaches = rw (← z) r;
+      is = sym q ∙ ap (fixOf t place) z;
+      bits = ⊎-elim (λ n. inl (sym w ∙ n)) (λ n. inr (sym w ∙ n)) (by-bits t (fixOf t place o) x b e);
+    }
+
+resolved-fix : (g : Target) (t : RelocationType) (place : ℕ) (x : Fix) → HasBits t → resolved g t place ≡ Fixup x → Resolved g t place x
+unfolding resolved
+resolved-fix (Home o) t place x b e = fix-of (Home o) t place o x b (record { way = inl refl }) e
+resolved-fix (Named o) t place x b e = fix-of (Named o) t place o x b (record { way = inr (inl refl) }) e
+resolved-fix (Slot o) t place x b e = fix-of (Slot o) t place o x b (record { way = inr (inr refl) }) e
+resolved-fix (Missing k) t place x b e = absurd (let w : _≡_ {A = ℕ} 0 1 = cc in omega arith)
+resolved-fix Refused t place x b e = absurd (let w : _≡_ {A = ℕ} 0 1 = cc in omega arith)
+
+module _ (f : List ℕ) (h : Header) (map homes : List ℕ) (undef : ℕ) (slot : List ℕ → Found) (j : ℕ) (t : RelocationType) (place : ℕ) (x : Fix) where
+  record ByOwn : Type 0 where
+    known : j < h .symbols
+    own : isOwn map j ≡ true
+    resolved : Resolved (targetOf f h homes undef slot j) t place x
+
+  own-fix : HasBits t → j < h .symbols → pick (isOwn map j) (resolved (targetOf f h homes undef slot j) t place) TurnedDown ≡ Fixup x → ByOwn
+  unfolding pick
+  own-fix b l e =
+      ⊎-elim (λ o. record { known = l; own = o; resolved = resolved-fix (targetOf f h homes undef slot j) t place x b (rw o at e) })
+      (λ o. absurd (let z : TurnedDown ≡ Fixup x = rw o at e in let w : _≡_ {A = ℕ} 0 1 = cc in omega arith))
+      (yes-no (isOwn map j))
+
+  symbol-fix : HasBits t → bySymbol f h map homes undef slot j t place ≡ Fixup x → ByOwn
+  unfolding bySymbol pick
+  symbol-fix b e =
+      ⊎-elim (λ n. absurd (let z : Skipped NoSymbol ≡ Fixup x = rw n at e in let w : _≡_ {A = ℕ} 0 1 = cc in omega arith))
+      (λ n. own-fix b (leb-false (h .symbols) j n) (rw n at e))
+      (yes-no (leb (h .symbols) j))
+
+-- of a fixup: its section has a home, its symbol is a symbol's own record, and it is the type's fixup at home start + address field
+pub record FixFrom (a : Arch) (f : List ℕ) (h : Header) (map homes : List ℕ) (undef : ℕ) (slot : List ℕ → Found) (i k : ℕ) (x : Fix) : Type 0 where
+  pub homed : eqb (getD homes i 0) 0 ≡ false
+  pub known : relocationSymbol f h i k < h .symbols
+  pub own : isOwn map (relocationSymbol f h i k) ≡ true
+  pub resolved : Resolved (targetOf f h homes undef slot (relocationSymbol f h i k)) (typeOf a (relocationType f h i k)) (getD homes i 0 - 1 + relocationAddress f h i k) x
+
+pub fix-from : (a : Arch) (f : List ℕ) (h : Header) (map homes : List ℕ) (undef : ℕ) (slot : List ℕ → Found) (i k : ℕ) (x : Fix)
+    → outcome a f h map homes undef slot i k ≡ Fixup x → FixFrom a f h map homes undef slot i k x
+unfolding outcome pick
+fix-from a f h map homes undef slot i k x e =
+    ⊎-elim (λ n. absurd (let z : Passed ≡ Fixup x = rw n at e in let w : _≡_ {A = ℕ} 0 1 = cc in omega arith))
+    (λ n.
+    let t = typeOf a (relocationType f h i k) in
+    let r =
+    symbol-fix f h map homes undef slot (relocationSymbol f h i k) t (getD homes i 0 - 1 + relocationAddress f h i k) x (has-bits a (relocationType f h i k)) (rw n at e) in
+    record { homed = n; known = r .known; own = r .own; resolved = r .resolved })
+    (yes-no (eqb (getD homes i 0) 0))

@@ -1,0 +1,181 @@
+-- What acceptance gives: of every file that survey accepts. (`small.pack`'s accepted objects, and 01's small object among them, meet the hypothesis.)
+use mathlib.Core.Path.{_≡_, refl, sym, ap, _∙_}
+use mathlib.Core.Bool.{Bool, true, false, not}
+use mathlib.Core.List.{List, [], _∷_, _++_}
+use mathlib.Core.Logic.{_⊎_, inl, inr, ⊎-elim}
+use Prim.Native.Nat.{ℕ, zero, suc, _+_, _*_, _/_, _≤_, _<_, _^_}
+use native.Mathlib.Omega.{arith}
+use lib.Dec.{leb, eqb, ltb}
+use lib.ListN.{length}
+use borrow.Author.Tests.{leb-true, not-false, lt-ltb, ne-eqb, eqb-true}
+use Rattle.util.specs.Pick.{pick, yes-no}
+use Rattle.object.specs.declared.Header.{Header}
+use Rattle.object.specs.declared.SymbolKind.{SymbolKind}
+use Rattle.object.specs.declared.SymbolKind.the-variants as kinds
+use Rattle.object.specs.declared.Place.{Place}
+use Rattle.object.specs.declared.Place.the-variants as places
+use Rattle.object.specs.Format.{headerOf}
+use Rattle.object.specs.Section.{relocationCount}
+use Rattle.object.specs.Symbol.{kind, symbolPlace}
+use Rattle.object.specs.Relocation.{relocationSymbol}
+use Rattle.names.specs.Name.{symbolText}
+use Rattle.layout.specs.Layout.{undefStart, mappedPages}
+use Rattle.checks.specs.Checks.{pagesOk, relocationTotal}
+use Rattle.externs.specs.declared.Found.{Found}
+use Rattle.externs.specs.declared.Found.the-variants.{At, Nothing}
+use Rattle.externs.specs.Puts.{outside, putsBy, putsName, isOwn, puts}
+use Rattle.externs.specs.Externs.{externs}
+use Rattle.externs.specs.Slot.{slotOf}
+use Rattle.externs.specs.SlotLaws.{Slot}
+use Rattle.externs.specs.ExternLaws.{externs-slot}
+use Rattle.fixups.specs.declared.Fix.{Fix}
+use Rattle.fixups.specs.declared.Tally.{Tally}
+use Rattle.fixups.specs.declared.Target.{Target}
+use Rattle.fixups.specs.declared.Target.the-variants as targets
+use Rattle.fixups.specs.declared.Outcome.{Outcome}
+use Rattle.fixups.specs.declared.Outcome.the-variants.{Passed, Skipped, TurnedDown, Fixup}
+use Rattle.fixups.specs.Target.{slotTarget, slotFor, dataTarget, targetBy, targetOf}
+use Rattle.fixups.specs.Tally.{isPassed, isSkipped, isRefused, isFixup, isMapped, isOutside, howMany, tallyOf}
+use Rattle.fixups.specs.Lists.{fixList, skipList}
+use Rattle.fixups.specs.TallyLaws.{all-counted, fixups-counted, skips-counted, none-anywhere}
+use Rattle.fixups.specs.OutcomeLaws.{FixFrom, fix-from}
+use Rattle.survey.specs.declared.answer.Counts.{Counts}
+use Rattle.survey.specs.declared.answer.Survey.{Survey}
+use Rattle.survey.specs.declared.answer.Survey.the-variants.{Accepted, Refused}
+use Rattle.survey.specs.Survey.{firstFailed, externChecks, targetChecks, ownMap, homes, outcomes, tally, countsBy, counts, checks, answerBy, surveyOf}
+use Rattle.survey.specs.SurveyLaws.{check-holds, checks-hold, Ordered, ordered, ordered-rest}
+
+-- ---- all checks pass, and the counts are the definition's
+by-code : (code : ℕ) (a c : Counts) → answerBy code a ≡ Accepted c → (code ≡ 0) × (a ≡ c)
+unfolding answerBy pick
+by-code zero a c e = (refl, cc)
+by-code (suc n) a c e =
+    let t : eqb (suc n) 0 ≡ false = ne-eqb (suc n) 0 (λ z. absurd (omega arith)) in
+    let z : Refused (suc n) ≡ Accepted c = rw t at e in
+    absurd (let w : _≡_ {A = ℕ} 0 1 = cc in omega arith)
+
+module _ (f : List ℕ) (c : Counts) (accepted : surveyOf f ≡ Accepted c) where
+  abbrev header : Header
+  header = headerOf f
+
+  no-failure : firstFailed (checks f header) ≡ 0
+  no-failure = (by-code (firstFailed (checks f header)) (counts f header) c accepted) .0
+
+  pub counts-are : counts f header ≡ c
+  counts-are = (by-code (firstFailed (checks f header)) (counts f header) c accepted) .1
+
+  pub records-ordered : Ordered f header
+  records-ordered = ordered f header (externChecks (length (externs f header)) ++ targetChecks (tally f header)) no-failure
+
+  rest : firstFailed (externChecks (length (externs f header)) ++ targetChecks (tally f header)) ≡ 0
+  rest = ordered-rest f header (externChecks (length (externs f header)) ++ targetChecks (tally f header)) no-failure
+
+  -- no more than 1,024 names
+  pub names-few : length (externs f header) ≤ 1024
+  names-few = leb-true (length (externs f header)) 1024 (check-holds _ _ _ rest)
+
+  -- no more than 4,096 pages
+  pub pages-few : mappedPages f header ≤ 4096
+  pages-few = leb-true (mappedPages f header) 4096 (records-ordered .pages)
+
+  -- ---- the relocations
+  abbrev o : ℕ → ℕ → Outcome
+  o = outcomes f header
+
+  abbrev count : ℕ → ℕ
+  count = relocationCount f header
+
+  none-refused-all : howMany isRefused o count (header .sections) ≡ 0
+  unfolding tallyOf
+  none-refused-all = eqb-true (howMany isRefused o count (header .sections)) 0 (check-holds _ _ _ (checks-hold _ _ _ rest))
+
+  none-outside-all : howMany (isOutside (mappedPages f header)) o count (header .sections) ≡ 0
+  unfolding tallyOf
+  none-outside-all = eqb-true (howMany (isOutside (mappedPages f header)) o count (header .sections)) 0 (check-holds _ _ _ (checks-hold _ _ _ (checks-hold _ _ _ rest)))
+
+  -- none is refused, so each is passed, skipped or a fixup, and the three counts are the file's relocations
+  pub none-refused : (i k : ℕ) → i < header .sections → k < count i → isRefused (o i k) ≡ false
+  none-refused i k a b = none-anywhere isRefused o count (header .sections) i k none-refused-all a b
+
+  pub counts-add-up : c .passed + c .skips + c .fixups ≡ c .relocations
+  unfolding countsBy tallyOf
+  counts-add-up = rw (← counts-are) (let e = all-counted o count (header .sections) in let z = none-refused-all in omega arith)
+
+  -- the counts are the lengths of the lists
+  pub fixups-listed : length (fixList o count (header .sections)) ≡ c .fixups
+  unfolding countsBy tallyOf
+  fixups-listed = rw (← counts-are) (fixups-counted o count (header .sections))
+
+  pub skips-listed : length (skipList o count (header .sections)) ≡ c .skips
+  unfolding countsBy tallyOf
+  skips-listed = rw (← counts-are) (skips-counted o count (header .sections))
+
+  -- every byte of a fixup lies in mapped pages, and its place is an offset below 2^24
+  pub fixups-mapped : (i k : ℕ) (x : Fix) → i < header .sections → k < count i → o i k ≡ Fixup x → x .place + x .bits / 8 ≤ 4096 * mappedPages f header
+  fixups-mapped i k x a b e =
+      let z : isOutside (mappedPages f header) (o i k) ≡ false = none-anywhere (isOutside (mappedPages f header)) o count (header .sections) i k none-outside-all a b in
+      let w : not (isMapped (mappedPages f header) x) ≡ false = rw e at z in
+      leb-true (x .place + x .bits / 8) (4096 * mappedPages f header) (not-false (isMapped (mappedPages f header) x) w)
+
+  pub places-fit : (i k : ℕ) (x : Fix) → i < header .sections → k < count i → o i k ≡ Fixup x → x .place < 2 ^ 24
+  places-fit i k x a b e =
+      let m = fixups-mapped i k x a b e in
+      let p = pages-few in
+      let r = fix-from _ f header (ownMap f header) (homes f header) (undefStart f header) (slotOf f header (externs f header)) i k x e in
+      ⊎-elim (λ n. let z : x .bits / 8 ≡ 4 = rw n in omega arith) (λ n. let z : x .bits / 8 ≡ 8 = rw n in omega arith) (r .resolved .bits)
+
+  -- ---- slots
+  -- each has its four bytes below 2^24
+  pub slots-fit : (e : ℕ) → e < length (externs f header) → undefStart f header + 4 * e + 4 ≤ 2 ^ 24
+  slots-fit e k = let n = names-few in let p = pages-few in omega arith
+
+  -- a relocation that puts its symbol's name has its slot
+  pub record SlotAt (name : List ℕ) : Type 0 where
+    pub index : ℕ
+    pub inside : index < length (externs f header)
+    pub found : slotOf f header (externs f header) name ≡ At index
+
+  pub puts-a-slot : (i k : ℕ) → i < header .sections → k < count i → puts f header (ownMap f header) i k ≡ true → SlotAt (symbolText f header (relocationSymbol f header i k))
+  puts-a-slot i k a b t =
+      let s = externs-slot f header (ownMap f header) i k a b t in
+      record { index = s .index; inside = s .inside; found = s .found }
+
+  -- data and text that are undefined, common or of unknown place always have their slot for a target
+  pub record SlotTarget (j : ℕ) : Type 0 where
+    pub index : ℕ
+    pub inside : index < length (externs f header)
+    pub is : targetOf f header (homes f header) (undefStart f header) (slotOf f header (externs f header)) j ≡ targets.Slot (undefStart f header + 4 * index)
+
+  outside-slot : (j : ℕ) (p : Place) → outside p ≡ true
+      → dataTarget f header (homes f header) (undefStart f header) (slotOf f header (externs f header)) j p ≡ slotFor f header (undefStart f header) (slotOf f header (externs f header)) j
+  unfolding dataTarget
+  outside-slot j (places.In n) e = absurd (let w : _≡_ {A = ℕ} 0 1 = cc in omega arith)
+  outside-slot j places.Undefined e = refl
+  outside-slot j places.Common e = refl
+  outside-slot j places.Absolute e = absurd (let w : _≡_ {A = ℕ} 0 1 = cc in omega arith)
+  outside-slot j places.Nowhere e = absurd (let w : _≡_ {A = ℕ} 0 1 = cc in omega arith)
+  outside-slot j places.Other e = refl
+
+  slot-of-data : (j : ℕ) → (kind f header j ≡ kinds.Data) ⊎ (kind f header j ≡ kinds.Text) → outside (symbolPlace f header j) ≡ true
+      → targetOf f header (homes f header) (undefStart f header) (slotOf f header (externs f header)) j ≡ slotFor f header (undefStart f header) (slotOf f header (externs f header)) j
+  unfolding targetBy
+  slot-of-data j d t = ⊎-elim (λ e. rw e (outside-slot j (symbolPlace f header j) t)) (λ e. rw e (outside-slot j (symbolPlace f header j) t)) d
+
+  puts-data : (i k : ℕ) → isOwn (ownMap f header) (relocationSymbol f header i k) ≡ true
+      → (kind f header (relocationSymbol f header i k) ≡ kinds.Data) ⊎ (kind f header (relocationSymbol f header i k) ≡ kinds.Text)
+      → outside (symbolPlace f header (relocationSymbol f header i k)) ≡ true → puts f header (ownMap f header) i k ≡ true
+  unfolding puts putsBy
+  puts-data i k own d t = ⊎-elim (λ e. rw (own, e) t) (λ e. rw (own, e) t) d
+
+  pub data-has-slot : (i k : ℕ) → i < header .sections → k < count i → isOwn (ownMap f header) (relocationSymbol f header i k) ≡ true
+      → (kind f header (relocationSymbol f header i k) ≡ kinds.Data) ⊎ (kind f header (relocationSymbol f header i k) ≡ kinds.Text)
+      → outside (symbolPlace f header (relocationSymbol f header i k)) ≡ true → SlotTarget (relocationSymbol f header i k)
+  unfolding slotTarget pick
+  data-has-slot i k a b own d t =
+      let s = puts-a-slot i k a b (puts-data i k own d t) in
+      let n : s .index < 1024 = let m = names-few in omega (arith, s .inside) in
+      record {
+        index = s .index;
+        inside = s .inside;
+        is = slot-of-data (relocationSymbol f header i k) d t ∙ rw (s .found, lt-ltb (s .index) 1024 n);
+      }
