@@ -8,7 +8,7 @@ use native.Mathlib.Omega.{arith}
 use lib.Dec.{leb, eqb, ltb}
 use lib.ListN.{length}
 use borrow.Author.Tests.{leb-true, not-false, lt-ltb, ne-eqb, eqb-true}
-use Rattle.util.specs.Pick.{pick, yes-no}
+use Rattle.util.specs.Pick.{pick, and-both}
 use Rattle.object.specs.declared.Header.{Header}
 use Rattle.object.specs.declared.SymbolKind.{SymbolKind}
 use Rattle.object.specs.declared.SymbolKind.the-variants as kinds
@@ -44,6 +44,11 @@ use Rattle.survey.specs.declared.answer.Survey.{Survey}
 use Rattle.survey.specs.declared.answer.Survey.the-variants.{Accepted, Refused}
 use Rattle.survey.specs.Survey.{firstFailed, externChecks, targetChecks, ownMap, homes, outcomes, tally, countsBy, counts, checks, answerBy, surveyOf}
 use Rattle.survey.specs.SurveyLaws.{check-holds, checks-hold, Ordered, ordered, ordered-rest}
+
+-- data and text outside the sections put their names
+puts-by : (k : SymbolKind) (p : Place) (taken : Bool) → (k ≡ kinds.Data) ⊎ (k ≡ kinds.Text) → outside p ≡ true → putsBy k p taken ≡ true
+unfolding putsBy
+puts-by k p taken d t = ⊎-elim (λ e. rw e t) (λ e. rw e t) d
 
 -- ---- all checks pass, and the counts are the definition's
 by-code : (code : ℕ) (a c : Counts) → answerBy code a ≡ Accepted c → (code ≡ 0) × (a ≡ c)
@@ -164,8 +169,9 @@ module _ (f : List ℕ) (c : Counts) (accepted : surveyOf f ≡ Accepted c) wher
   puts-data : (i k : ℕ) → isOwn (ownMap f header) (relocationSymbol f header i k) ≡ true
       → (kind f header (relocationSymbol f header i k) ≡ kinds.Data) ⊎ (kind f header (relocationSymbol f header i k) ≡ kinds.Text)
       → outside (symbolPlace f header (relocationSymbol f header i k)) ≡ true → puts f header (ownMap f header) i k ≡ true
-  unfolding puts putsBy
-  puts-data i k own d t = ⊎-elim (λ e. rw (own, e) t) (λ e. rw (own, e) t) d
+  unfolding puts
+  puts-data i k own d t =
+      and-both (isOwn (ownMap f header) (relocationSymbol f header i k)) (putsName f header (relocationSymbol f header i k)) own (puts-by (kind f header (relocationSymbol f header i k)) _ _ d t)
 
   pub data-has-slot : (i k : ℕ) → i < header .sections → k < count i → isOwn (ownMap f header) (relocationSymbol f header i k) ≡ true
       → (kind f header (relocationSymbol f header i k) ≡ kinds.Data) ⊎ (kind f header (relocationSymbol f header i k) ≡ kinds.Text)
