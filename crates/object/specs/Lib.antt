@@ -4,3 +4,4 @@ pub mod SectionLaws
 pub mod Symbol
 pub mod SymbolLaws
 pub mod Relocation
+pub mod Words
