@@ -8,7 +8,8 @@ use native.Mathlib.Numerals.{add-one}
 use lib.Dec.{eqb}
 use lib.ListN.{length, length-append}
 use borrow.Author.Tests.{eq-eqb, ne-eqb}
-use Rattle.util.specs.Pick.{pick}
+use mathlib.Core.Logic.{⊎-elim}
+use Rattle.util.specs.Pick.{pick, yes-no}
 use Rattle.util.specs.Align.{roundUp, align-exact, up-near}
 use Rattle.util.specs.Prefix.{countTo}
 use Rattle.le.specs.Le.{splice, splice-next}
@@ -18,8 +19,8 @@ use Rattle.names.specs.Bytes.{sameBytes}
 use Rattle.names.specs.Name.{sectionText}
 use Rattle.layout.specs.declared.Home.{Home}
 use Rattle.layout.specs.declared.Home.the-variants.{At, Undef, Nowhere}
-use Rattle.layout.specs.Layout.{nextStart, startAt, undefStart, recordOf, tableRecords}
-use Rattle.layout.specs.Home.{firstIn, isHome, isNamed, homeOf, homeCell, homesTo}
+use Rattle.layout.specs.Layout.{nextStart, startAt, undefStart, recordOf, tableRecords, nextRecord, startsTo}
+use Rattle.layout.specs.Home.{firstIn, isHome, isNamed, homeOf, homeCell, homeRecord, homesTo, recordsTo}
 use Rattle.layout.specs.HomeLaws.{length-homes}
 
 -- ---- one section further
@@ -137,6 +138,87 @@ module _ (f : List ℕ) (h : Header) (name : List ℕ) (j : ℕ) (l : Bool) wher
   pub is-named-unloaded : l ≡ loaded f h j → l ≡ false → false ≡ isNamed f h name j
   unfolding isNamed
   is-named-unloaded q t = rw (← q, t)
+
+-- ---- lists of one word a section
+module _ (f : List ℕ) (h : Header) where
+  length-starts : (n : ℕ) → length (startsTo f h n) ≡ n
+  unfolding startsTo
+  length-starts zero = refl
+  length-starts (suc n) = simp (length-append, length-starts n) (omega arith)
+
+  pub starts-none : (l : List ℕ) → l ≡ splice l 0 (startsTo f h 0)
+  unfolding splice startsTo
+  starts-none l = refl
+
+  pub starts-again : (l b b′ : List ℕ) (i x : ℕ) → b ≡ splice l 0 (startsTo f h i) → x ≡ startAt f h i → b′ ≡ splice b i (x % 2 ^ 32 ∷ []) → b′ ≡ splice l 0 (startsTo f h (i + 1))
+  unfolding startsTo
+  starts-again l b b′ i x e q d = rw (d, e, splice-next l 0 (startsTo f h i) (x % 2 ^ 32 ∷ []) i (let z = length-starts i in omega arith), q, add-one)
+
+  pub starts-end : (l b : List ℕ) (i n m : ℕ) → b ≡ splice l 0 (startsTo f h i) → i ≤ n → n ≤ i → n ≡ m → b ≡ splice l 0 (startsTo f h m)
+  starts-end l b i n m e a c q = let z : i ≡ n = omega arith in cc
+
+  length-records : (n : ℕ) → length (recordsTo f h n) ≡ n
+  unfolding recordsTo
+  length-records zero = refl
+  length-records (suc n) = simp (length-append, length-records n) (omega arith)
+
+  pub records-none : (l : List ℕ) → l ≡ splice l 0 (recordsTo f h 0)
+  unfolding splice recordsTo
+  records-none l = refl
+
+  pub records-again : (l b b′ : List ℕ) (i x : ℕ) → b ≡ splice l 0 (recordsTo f h i) → x ≡ homeRecord f h (homeOf f h i) → b′ ≡ splice b i (x ∷ []) → b′ ≡ splice l 0 (recordsTo f h (i + 1))
+  unfolding recordsTo
+  records-again l b b′ i x e q d = rw (d, e, splice-next l 0 (recordsTo f h i) (x ∷ []) i (let z = length-records i in omega arith), q, add-one)
+
+  pub records-end : (l b : List ℕ) (i n m : ℕ) → b ≡ splice l 0 (recordsTo f h i) → i ≤ n → n ≤ i → n ≡ m → b ≡ splice l 0 (recordsTo f h m)
+  records-end l b i n m e a c q = let z : i ≡ n = omega arith in cc
+
+  -- ---- the first record that passes a test, by its number in the table
+  module _ (i c : ℕ) (l : Bool) where
+    pub next-record-yes : l ≡ loaded f h i → l ≡ true → c + 1 ≡ nextRecord f h i c
+    unfolding nextRecord pick
+    next-record-yes q t = rw (← q, t)
+
+    pub next-record-no : l ≡ loaded f h i → l ≡ false → c ≡ nextRecord f h i c
+    unfolding nextRecord pick
+    next-record-no q t = rw (← q, t)
+
+  pick-one : (b : Bool) (c : ℕ) → pick b (c + 1) c ≡ c + pick b 1 0
+  unfolding pick
+  pick-one true c = refl
+  pick-one false c = omega arith
+
+  pub count-again : (i c r : ℕ) → c ≡ recordOf f h i → r ≡ nextRecord f h i c → r ≡ recordOf f h (i + 1)
+  unfolding nextRecord countTo
+  count-again i c r e q = rw (add-one i, ← e) (q ∙ pick-one (loaded f h i) c)
+
+  pub count-most : (i c r : ℕ) → c ≤ i → r ≡ nextRecord f h i c → r ≤ i + 1
+  unfolding nextRecord pick
+  count-most i c r k q = ⊎-elim (λ t. let z : r ≡ c + 1 = rw t at q in omega arith) (λ t. let z : r ≡ c = rw t at q in omega arith) (yes-no (loaded f h i))
+
+  module _ (p : ℕ → Bool) (u : Bool) (j n : ℕ) where
+    pub at-here : (c : ℕ) (t : Bool) (x : Home) → j < n → c ≡ recordOf f h j → t ≡ p j → t ≡ true → firstIn p u j (n - j) ≡ x → c ≡ homeRecord f h x
+    unfolding firstIn homeRecord pick
+    at-here c t x k a q e d = let z : n - j ≡ suc (n - (j + 1)) = omega arith in rw (← d, z, ← q, e, a)
+
+    pub at-undef : (c : ℕ) (x : Home) → n ≤ j → j ≤ n → n ≡ h .sections → c ≡ recordOf f h j → u ≡ true → firstIn p u j (n - j) ≡ x → c ≡ homeRecord f h x
+    unfolding firstIn homeRecord pick
+    at-undef c x k k2 m a z d =
+        let e : n - j ≡ 0 = omega arith in
+        let w : j ≡ h .sections = omega arith in
+        rw (← d, e, z, a, w)
+
+    pub at-none : (x : Home) → n ≤ j → u ≡ false → firstIn p u j (n - j) ≡ x → 0 ≡ homeRecord f h x
+    unfolding firstIn homeRecord pick
+    at-none x k z d = let e : n - j ≡ 0 = omega arith in rw (← d, e, z)
+
+pub ruleset starts-loop = (starts-none, starts-again, starts-end)
+
+pub ruleset records-loop = (records-none, records-again, records-end)
+
+pub ruleset next-records = (next-record-yes, next-record-no)
+
+pub ruleset at-loop = (record-none, count-again, count-most, first-begin, first-other, at-here, at-undef, at-none)
 
 pub ruleset next-ways = (next-loaded, next-unloaded, is-home-loaded, is-home-unloaded, is-named-loaded, is-named-unloaded)
 

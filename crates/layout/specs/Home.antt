@@ -57,3 +57,8 @@ module _ (f : List ℕ) (h : Header) where
   unfoldable pub homesTo : ℕ → List ℕ
   homesTo zero = []
   homesTo (suc i) = homesTo i ++ (homeCell (homeOf i) % 2 ^ 32 ∷ [])
+
+  -- the table records of their homes
+  unfoldable pub recordsTo : ℕ → List ℕ
+  recordsTo zero = []
+  recordsTo (suc i) = recordsTo i ++ (homeRecord (homeOf i) ∷ [])

@@ -1,15 +1,163 @@
--- The list of the sections' homes.
-use mathlib.Core.Path.{_≡_, refl}
-use mathlib.Core.List.{List}
-use Prim.Native.Nat.{ℕ, zero, suc}
+-- What a home is, for every file and every header, and what the list of the sections' homes holds (01, "Layout, slots and fixups").
+use mathlib.Core.Path.{_≡_, refl, ap, _∙_}
+use mathlib.Core.Bool.{Bool, true, false}
+use mathlib.Core.List.{List, [], _∷_}
+use mathlib.Core.Logic.{⊎-elim}
+use Prim.Native.Nat.{ℕ, zero, suc, _+_, _%_, _^_, _≤_, _<_}
+use native.Mathlib.Nat.{not-suc-le-zero, le-of-suc-le-suc, eq-or-lt-of-le, mod-eq-of-lt}
 use native.Mathlib.Omega.{arith}
-use lib.ListN.{length, length-append}
+use lib.Dec.{eqb}
+use lib.ListN.{length, getD, length-append, List·getD-append, List·getD-eq-default}
+use lib.Seq.{getD-append-seam}
+use borrow.Author.Tests.{eqb-true, eq-eqb}
+use Rattle.util.specs.Pick.{pick, and-left, and-right, and-both}
 use Rattle.object.specs.declared.Header.{Header}
-use Rattle.layout.specs.Home.{homesTo}
+use Rattle.object.specs.Section.{loaded, uninitialized, fileStart}
+use Rattle.layout.specs.declared.Home.{Home}
+use Rattle.layout.specs.declared.Home.the-variants.{At, Undef, Nowhere}
+use Rattle.layout.specs.Layout.{startAt, undefStart, mappedPages}
+use Rattle.layout.specs.LayoutLaws.{starts-in-order, undef-fits}
+use Rattle.layout.specs.Home.{firstIn, isHome, homeAt, homeOf, homeStart, homeCell, homesTo}
+use Rattle.layout.specs.FirstLaws.{found-at, found-undef, found-nowhere, found-by, not-both}
+
+-- ---- what a home is
+-- no loaded section below n has section i's file start
+abbrev pub NoneStarts : List ℕ → Header → ℕ → ℕ → Type 0
+NoneStarts f h i n = (k : ℕ) → k < n → loaded f h k ≡ true → fileStart f h k ≡ fileStart f h i → ⊥
+
+-- section j is the first loaded section with section i's file start
+pub record HomeFirst (f : List ℕ) (h : Header) (i j : ℕ) : Type 0 where
+  pub inside : j < h .sections
+  pub loads : loaded f h j ≡ true
+  pub same : fileStart f h j ≡ fileStart f h i
+  pub first : NoneStarts f h i j
+
+-- section i starts at 0 in the file, as UNDEF does, and no loaded section does
+pub record HomeUndef (f : List ℕ) (h : Header) (i : ℕ) : Type 0 where
+  pub same : fileStart f h i ≡ 0
+  pub none : NoneStarts f h i (h .sections)
+
+-- section i starts elsewhere, and no loaded section starts there
+pub record HomeNowhere (f : List ℕ) (h : Header) (i : ℕ) : Type 0 where
+  pub other : fileStart f h i ≡ 0 → ⊥
+  pub none : NoneStarts f h i (h .sections)
+
+-- section i's home is a section, i or one before it, and does not start behind it
+pub record HomeBefore (f : List ℕ) (h : Header) (i : ℕ) : Type 0 where
+  pub section : ℕ
+  pub is : homeOf f h i ≡ At section
+  pub not-behind : section ≤ i
+  pub start : homeStart f h (homeOf f h i) ≤ startAt f h i
 
 module _ (f : List ℕ) (h : Header) where
+  is-home : (s j : ℕ) → loaded f h j ≡ true → fileStart f h j ≡ s → isHome f h s j ≡ true
+  unfolding isHome
+  is-home s j t e = and-both (loaded f h j) (eqb (fileStart f h j) s) t (eq-eqb (fileStart f h j) s e)
+
+  home-loaded : (s j : ℕ) → isHome f h s j ≡ true → loaded f h j ≡ true
+  unfolding isHome
+  home-loaded s j e = and-left (loaded f h j) (eqb (fileStart f h j) s) e
+
+  home-start : (s j : ℕ) → isHome f h s j ≡ true → fileStart f h j ≡ s
+  unfolding isHome
+  home-start s j e = eqb-true (fileStart f h j) s (and-right (loaded f h j) (eqb (fileStart f h j) s) e)
+
+  none-starts : (i n : ℕ) → ((m : ℕ) → m < n → isHome f h (fileStart f h i) m ≡ false) → NoneStarts f h i n
+  none-starts i n r k q t e = not-both (isHome f h (fileStart f h i) k) (is-home (fileStart f h i) k t e) (r k q)
+
+  module _ (i : ℕ) where
+    -- a home that is a section is the first loaded section with the same file start
+    pub home-first : (j : ℕ) → homeOf f h i ≡ At j → HomeFirst f h i j
+    home-first j e =
+        let s = fileStart f h i in
+        let r = found-at (isHome f h s) (eqb s 0) (h .sections) j e in
+        record { inside = r .inside; loads = home-loaded s j (r .passes); same = home-start s j (r .passes); first = none-starts i j (r .first) }
+
+    -- and the first such section is the home
+    pub first-home : (j : ℕ) → HomeFirst f h i j → homeOf f h i ≡ At j
+    first-home j r =
+        let s = fileStart f h i in
+        let b = found-by (isHome f h s) (eqb s 0) (h .sections) j (r .inside) (is-home s j (r .loads) (r .same)) in
+        let a = home-first (b .section) (b .is) in
+        let z : b .section ≡ j =
+        ⊎-elim (λ e. e) (λ lt. absurd (r .first (b .section) lt (a .loads) (a .same))) (eq-or-lt-of-le (b .not-behind)) in
+        b .is ∙ ap At z
+
+    -- UNDEF is the home of a section with file start 0 where no loaded section has it
+    pub home-undef : homeOf f h i ≡ Undef → HomeUndef f h i
+    home-undef e =
+        let s = fileStart f h i in
+        let r = found-undef (isHome f h s) (eqb s 0) (h .sections) e in
+        record { same = eqb-true s 0 (r .undef); none = none-starts i (h .sections) (r .none) }
+
+    -- a section with another file start that no loaded section has is without a home
+    pub home-nowhere : homeOf f h i ≡ Nowhere → HomeNowhere f h i
+    home-nowhere e =
+        let s = fileStart f h i in
+        let r = found-nowhere (isHome f h s) (eqb s 0) (h .sections) e in
+        record { other = λ z. not-both (eqb s 0) (eq-eqb s 0 z) (r .undef); none = none-starts i (h .sections) (r .none) }
+
+  -- sections with the same file start share a home
+  pub same-start-share : (i j : ℕ) → fileStart f h i ≡ fileStart f h j → homeOf f h i ≡ homeOf f h j
+  same-start-share i j e = ap (homeAt f h) e
+
+  -- so two uninitialised sections do
+  pub uninitialized-share : (i j : ℕ) → uninitialized f h i ≡ true → uninitialized f h j ≡ true → homeOf f h i ≡ homeOf f h j
+  unfolding fileStart pick
+  uninitialized-share i j t u = same-start-share i j (rw (t, u))
+
+  -- a loaded section has a home, and that is a section which does not start behind it
+  pub loaded-has-home : (i : ℕ) → i < h .sections → loaded f h i ≡ true → HomeBefore f h i
+  unfolding homeStart
+  loaded-has-home i q t =
+      let s = fileStart f h i in
+      let b = found-by (isHome f h s) (eqb s 0) (h .sections) i q (is-home s i t refl) in
+      record { section = b .section; is = b .is; not-behind = b .not-behind; start = rw (b .is) (starts-in-order f h (b .section) i (b .not-behind)) }
+
+-- ---- what is kept of a home
+module _ (f : List ℕ) (h : Header) where
+  module _ (p : ℕ → Bool) (u : Bool) where
+    cell-case : (x : Home) → firstIn p u 0 (h .sections) ≡ x → homeCell f h x ≤ undefStart f h + 1
+    unfolding homeCell
+    cell-case (At k) e =
+        let r = found-at p u (h .sections) k e in
+        let a : startAt f h k ≤ undefStart f h = starts-in-order f h k (h .sections) (omega (arith, r .inside)) in
+        omega arith
+    cell-case Undef e = omega arith
+    cell-case Nowhere e = omega arith
+
+    -- no record that is searched for, by file start or by name, starts behind UNDEF
+    pub cell-most : homeCell f h (firstIn p u 0 (h .sections)) ≤ undefStart f h + 1
+    cell-most = cell-case (firstIn p u 0 (h .sections)) refl
+
+    -- so its cell fits a word of 32 bits where refusal 8 does not apply
+    pub cell-fits : mappedPages f h ≤ 4096 → homeCell f h (firstIn p u 0 (h .sections)) % 2 ^ 32 ≡ homeCell f h (firstIn p u 0 (h .sections))
+    cell-fits room =
+        let a = cell-most in
+        let b = undef-fits f h room in
+        mod-eq-of-lt (omega arith)
+
+  -- ---- the list of the sections' homes
   -- it has a cell for each section
   pub length-homes : (n : ℕ) → length (homesTo f h n) ≡ n
   unfolding homesTo
   length-homes zero = refl
   length-homes (suc n) = simp (length-append, length-homes n) (omega arith)
+
+  -- cell i is that of section i's home, in 32 bits
+  pub homes-at : (n i : ℕ) → i < n → getD (homesTo f h n) i 0 ≡ homeCell f h (homeOf f h i) % 2 ^ 32
+  unfolding homesTo
+  homes-at zero i q = absurd (not-suc-le-zero q)
+  homes-at (suc n) i q =
+      ⊎-elim (λ e. rw e (rw (length-homes n) at (getD-append-seam (homesTo f h n) (homeCell f h (homeOf f h n) % 2 ^ 32) [] 0)))
+      (λ lt. List·getD-append (homesTo f h n) (homeCell f h (homeOf f h n) % 2 ^ 32 ∷ []) 0 i (rw (length-homes n) lt) ∙ homes-at n i lt)
+      (eq-or-lt-of-le (le-of-suc-le-suc q))
+
+  -- behind the last cell it reads as 0
+  pub homes-past : (n i : ℕ) → n ≤ i → getD (homesTo f h n) i 0 ≡ 0
+  homes-past n i q = List·getD-eq-default (homesTo f h n) 0 {n = i} (rw (length-homes n) q)
+
+  -- where refusal 8 does not apply, the 32 bits keep all of it
+  pub homes-exact : (n i : ℕ) → mappedPages f h ≤ 4096 → i < n → getD (homesTo f h n) i 0 ≡ homeCell f h (homeOf f h i)
+  homes-exact n i room q =
+      homes-at n i q ∙ cell-fits (isHome f h (fileStart f h i)) (eqb (fileStart f h i) 0) room

@@ -1,6 +1,6 @@
 -- Where sections lie in the image, in offsets from the base (01, "Layout, slots and fixups").
-use mathlib.Core.List.{List}
-use Prim.Native.Nat.{ℕ, zero, suc, _+_, _*_}
+use mathlib.Core.List.{List, [], _∷_, _++_}
+use Prim.Native.Nat.{ℕ, zero, suc, _+_, _*_, _%_, _^_}
 use Rattle.util.specs.Pick.{pick}
 use Rattle.util.specs.Align.{roundUp}
 use Rattle.util.specs.Prefix.{countTo}
@@ -32,3 +32,12 @@ module _ (f : List ℕ) (h : Header) where
 
   abbrev pub tableRecords : ℕ
   tableRecords = recordOf (h .sections) + 1
+
+  -- one section further
+  unfoldable pub nextRecord : ℕ → ℕ → ℕ
+  nextRecord i count = pick (loaded f h i) (count + 1) count
+
+  -- the starts of the sections below i, in words of 32 bits: where refusal 8 does not apply, every start fits (`starts-fit`)
+  unfoldable pub startsTo : ℕ → List ℕ
+  startsTo zero = []
+  startsTo (suc i) = startsTo i ++ (startAt i % 2 ^ 32 ∷ [])

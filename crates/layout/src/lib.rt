@@ -4,8 +4,8 @@ use object::Header;
 ghost use mathlib.Core.Path.{_≡_};
 ghost use Prim.Native.Nat.{_+_, _≤_, _^_, _<_};
 ghost use Rattle.le.specs.Le.{splice};
-ghost use Rattle.layout.specs.Layout.{nextStart, undefStart, mappedPages, tableRecords};
-ghost use Rattle.layout.specs.Home.{isHome, isNamed, homeAt, homeOf, namedRecord, homeCell, homesTo};
+ghost use Rattle.layout.specs.Layout.{nextStart, undefStart, mappedPages, tableRecords, nextRecord, startsTo};
+ghost use Rattle.layout.specs.Home.{isHome, isNamed, homeAt, homeOf, namedRecord, homeCell, homeRecord, homesTo, recordsTo};
 
 // A section's home: the record of a loaded section, by that section's number from 0; UNDEF's; or none.
 pub enum Home {
@@ -140,6 +140,69 @@ pub fn fill_homes(f: &[u8], h: Header, homes: &mut [u32])
     while i < n {
         let cell = home_cell(f, h, i) % 0x100000000;
         le::put_word(homes, i as usize, cell as u32);
+        i += 1;
+    }
+}
+
+// The starts of all sections, a word each.
+pub fn fill_starts(f: &[u8], h: Header, starts: &mut [u32])
+    ensures { λ _. ⌜ now (starts .exit) ≡ splice (now (starts .entry)) 0 (startsTo (now (f .entry)) h (h .sections)) ⌝ }
+{
+    let n = h.sections as u32;
+    let mut at: u64 = 0;
+    let mut i: u32 = 0;
+    while i < n {
+        let low = at % 0x100000000;
+        le::put_word(starts, i as usize, low as u32);
+        at = next_start(f, h, i, at);
+        i += 1;
+    }
+}
+
+// How many table records stand before section j + 1's, if `count` do before section j's.
+fn next_record(f: &[u8], h: Header, j: u32, count: u32) -> u32
+    requires { ⌜ (count ≤ j) × (j < 2 ^ 16) ⌝ }
+    ensures { λ r. ⌜ r ≡ nextRecord (now (f .entry)) h j count ⌝ }
+{
+    if object::is_loaded(f, h, j) {
+        count + 1
+    } else {
+        count
+    }
+}
+
+// The record in the section table of section i's home, 0 where it has none.
+pub fn home_record(f: &[u8], h: Header, i: u32) -> u32
+    ensures { λ r. ⌜ r ≡ homeRecord (now (f .entry)) h (homeOf (now (f .entry)) h i) ⌝ }
+{
+    record_of_start(f, h, object::file_start(f, h, i))
+}
+
+fn record_of_start(f: &[u8], h: Header, s: u32) -> u32
+    ensures { λ r. ⌜ r ≡ homeRecord (now (f .entry)) h (homeAt (now (f .entry)) h s) ⌝ }
+{
+    let n = h.sections as u32;
+    let mut count: u32 = 0;
+    let mut j: u32 = 0;
+    while j < n {
+        if is_home(f, h, s, j) {
+            return count;
+        }
+        count = next_record(f, h, j, count);
+        j += 1;
+    }
+    let undef = s == 0;
+    if undef { count } else { 0 }
+}
+
+// The records of all sections' homes, a word each.
+pub fn fill_records(f: &[u8], h: Header, records: &mut [u32])
+    ensures { λ _. ⌜ now (records .exit) ≡ splice (now (records .entry)) 0 (recordsTo (now (f .entry)) h (h .sections)) ⌝ }
+{
+    let n = h.sections as u32;
+    let mut i: u32 = 0;
+    while i < n {
+        le::put_word(records, i as usize, home_record(f, h, i));
         i += 1;
     }
 }

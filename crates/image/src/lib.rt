@@ -1,0 +1,1 @@
+// The laid image and its marks, in lent storage.

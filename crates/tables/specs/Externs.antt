@@ -1,0 +1,25 @@
+-- The table of extern names (01, "Layout, slots and fixups"): slot e is at UNDEF + 4 e; `set` has the n symbol numbers in the order of their names.
+use mathlib.Core.List.{List, [], _∷_, _++_}
+use Prim.Native.Nat.{ℕ, zero, suc, _+_, _*_}
+use lib.ListN.{getD}
+use Rattle.object.specs.declared.Header.{Header}
+use Rattle.names.specs.Name.{symbolName}
+use Rattle.fixups.specs.Target.{SLOT-SIZE}
+use Rattle.tables.specs.Words.{wordBytes, nameStart, nameLength}
+
+-- slot address, symbol number, name start, name length
+abbrev pub EXTERN-WORDS : ℕ
+EXTERN-WORDS = 4
+
+module _ (f : List ℕ) (h : Header) (base undef : ℕ) (set : List ℕ) where
+  abbrev pub externWords : ℕ → List ℕ
+  externWords e =
+      (base + undef + SLOT-SIZE * e)
+      ∷ getD set e 0
+      ∷ nameStart (symbolName f h (getD set e 0))
+      ∷ nameLength (symbolName f h (getD set e 0))
+      ∷ []
+
+  unfoldable pub externTable : ℕ → List ℕ
+  externTable zero = []
+  externTable (suc e) = externTable e ++ wordBytes (externWords e)

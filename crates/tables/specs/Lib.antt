@@ -1,0 +1,5 @@
+pub mod Words
+pub mod Sections
+pub mod Symbols
+pub mod Externs
+pub mod Relocations
