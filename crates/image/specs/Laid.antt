@@ -2,13 +2,12 @@
 -- and fixups"). Offsets from the base are places in the image.
 use mathlib.Core.List.{List}
 use Prim.Native.Nat.{ℕ, zero, suc, _+_, _-_, _*_}
-use lib.ListN.{replicate}
+use lib.ListN.{replicate, getD}
 use Rattle.util.specs.Pick.{pick}
 use Rattle.arch.specs.Page.{PAGE-SIZE}
 use Rattle.le.specs.Le.{le, splice, part}
 use Rattle.object.specs.declared.Header.{Header}
 use Rattle.object.specs.Section.{loaded, fileStart, fileEnd}
-use Rattle.layout.specs.Layout.{startAt}
 
 -- the mapped pages are zero
 abbrev pub zeroed : ℕ → List ℕ → List ℕ
@@ -18,20 +17,25 @@ zeroed pages image = splice image 0 (replicate (PAGE-SIZE * pages) 0)
 abbrev pub sectionBytes : List ℕ → Header → ℕ → List ℕ
 sectionBytes f h i = part f (fileStart f h i) (fileEnd f h i - fileStart f h i)
 
--- the image after the sections below i: each loaded one's bytes at its start
-unfoldable pub sectionsLaid : List ℕ → Header → List ℕ → ℕ → List ℕ
-sectionsLaid f h image zero = image
-sectionsLaid f h image (suc i) =
-    pick (loaded f h i) (splice (sectionsLaid f h image i) (startAt f h i) (sectionBytes f h i)) (sectionsLaid f h image i)
+-- a loaded section's bytes go to its start, which `starts` keeps; the image after the sections below i
+unfoldable pub sectionStep : List ℕ → Header → List ℕ → List ℕ → ℕ → List ℕ
+sectionStep f h starts image i = pick (loaded f h i) (splice image (getD starts i 0) (sectionBytes f h i)) image
+
+unfoldable pub sectionsLaid : List ℕ → Header → List ℕ → List ℕ → ℕ → List ℕ
+sectionsLaid f h starts image zero = image
+sectionsLaid f h starts image (suc i) = sectionStep f h starts (sectionsLaid f h starts image i) i
 
 -- after the first n slots: slot e, 4 bytes at UNDEF + 4 e, holds its own address
 abbrev pub SLOT : ℕ
 SLOT = 4
 
+unfoldable pub slotStep : ℕ → ℕ → List ℕ → ℕ → List ℕ
+slotStep base undef image e = splice image (undef + SLOT * e) (le SLOT (base + undef + SLOT * e))
+
 unfoldable pub slotsLaid : ℕ → ℕ → List ℕ → ℕ → List ℕ
 slotsLaid base undef image zero = image
-slotsLaid base undef image (suc e) = splice (slotsLaid base undef image e) (undef + SLOT * e) (le SLOT (base + undef + SLOT * e))
+slotsLaid base undef image (suc e) = slotStep base undef (slotsLaid base undef image e) e
 
 -- with n extern names
-abbrev pub laid : List ℕ → Header → ℕ → ℕ → ℕ → ℕ → List ℕ → List ℕ
-laid f h pages base undef n image = slotsLaid base undef (sectionsLaid f h (zeroed pages image) (h .sections)) n
+abbrev pub laid : List ℕ → Header → List ℕ → ℕ → ℕ → ℕ → ℕ → List ℕ → List ℕ
+laid f h starts pages base undef n image = slotsLaid base undef (sectionsLaid f h starts (zeroed pages image) (h .sections)) n

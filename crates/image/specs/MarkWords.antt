@@ -8,7 +8,7 @@ abbrev pub markCount : ℕ → ℕ
 markCount pages = (pages + 63) / 64
 
 -- word w: as many ones, from the lowest bit, as pages are left for it
-abbrev pub markWord : ℕ → ℕ → ℕ
+unfoldable pub markWord : ℕ → ℕ → ℕ
 markWord pages w = 2 ^ min 64 (pages - 64 * w) - 1
 
 -- the bytes of the first n words

@@ -1,12 +1,12 @@
 -- The section table (01, "Layout, slots and fixups"): a record for each loaded section, in file order, and UNDEF's behind them.
 use mathlib.Core.List.{List, [], _∷_, _++_}
 use Prim.Native.Nat.{ℕ, zero, suc, _+_}
+use lib.ListN.{getD}
 use Rattle.util.specs.Pick.{pick}
 use Rattle.arch.specs.Page.{PAGE-SIZE}
 use Rattle.object.specs.declared.Header.{Header}
 use Rattle.object.specs.Section.{loaded, fileStart, fileEnd, rangeLength, permissions}
 use Rattle.names.specs.Name.{sectionName}
-use Rattle.layout.specs.Layout.{startAt, undefStart}
 use Rattle.tables.specs.Words.{wordBytes, nameStart, nameLength}
 
 -- start, end, file start, file end, permissions, name start, name length, section number from 1
@@ -16,11 +16,12 @@ SECTION-WORDS = 8
 abbrev pub READ : ℕ
 READ = 1
 
-module _ (f : List ℕ) (h : Header) (base : ℕ) where
+-- `starts` keeps each section's start
+module _ (f : List ℕ) (h : Header) (base : ℕ) (starts : List ℕ) (undef : ℕ) where
   abbrev pub sectionWords : ℕ → List ℕ
   sectionWords i =
-      (base + startAt f h i)
-      ∷ (base + startAt f h i + rangeLength f h i)
+      (base + getD starts i 0)
+      ∷ (base + getD starts i 0 + rangeLength f h i)
       ∷ fileStart f h i
       ∷ fileEnd f h i
       ∷ permissions f h i
@@ -32,7 +33,7 @@ module _ (f : List ℕ) (h : Header) (base : ℕ) where
   -- UNDEF: one page, readable, no bytes and no name in the file, no section's number
   abbrev pub undefWords : List ℕ
   undefWords =
-      (base + undefStart f h) ∷ (base + undefStart f h + PAGE-SIZE) ∷ 0 ∷ 0 ∷ READ ∷ 0 ∷ 0 ∷ 0 ∷ []
+      (base + undef) ∷ (base + undef + PAGE-SIZE) ∷ 0 ∷ 0 ∷ READ ∷ 0 ∷ 0 ∷ 0 ∷ []
 
   -- the bytes of the records of the sections below i
   unfoldable pub sectionRecords : ℕ → List ℕ

@@ -1,0 +1,14 @@
+use borrow.Author.Needs.{needs}
+use Rattle.le.specs.Le.{splice-long}
+use Rattle.image.proofs.put_mark.Statement.{statement}
+use Rattle.image.proofs.put_mark.Tie as tie
+
+pub put-mark-spec : {M : Type 1} → statement M
+put-mark-spec =
+    tie.close
+    (tie.spec
+    (λ c. search (needs, splice-long))
+    (λ c. search (needs, splice-long))
+    (λ c. search (needs, splice-long))
+    (λ c. search (needs, splice-long))
+    (λ c. cc))
