@@ -8,6 +8,7 @@ use arch::Arch;
 use arch::Machine;
 use externs::Names;
 use fixups::Tally;
+pub use listed::cell_of;
 pub use listed::is_listed;
 pub use listed::listed_offset;
 pub use listed::listed_total;

@@ -2,10 +2,10 @@
 use object::Header;
 use object::Place;
 ghost use mathlib.Core.Path.{_≡_};
-ghost use Prim.Native.Nat.{_-_, _+_};
+ghost use Prim.Native.Nat.{_-_, _+_, _<_, _^_};
 ghost use Rattle.survey.specs.Listed.{cellOf, listed, listedOffset, listedTotal};
 
-fn cell_of(homes: &[u32], p: Place) -> u32
+pub fn cell_of(homes: &[u32], p: Place) -> u32
     ensures { λ r. ⌜ r ≡ cellOf (now (homes .entry)) p ⌝ }
 {
     match p {
@@ -32,6 +32,7 @@ pub fn is_listed(f: &[u8], h: Header, map: &[u8], homes: &[u32], j: u32) -> bool
 // Where symbol j is listed, from the base.
 pub fn listed_offset(f: &[u8], h: Header, homes: &[u32], j: u32) -> u64
     ensures { λ r. ⌜ r ≡ listedOffset (now (f .entry)) h (now (homes .entry)) j ⌝ }
+    ensures { λ r. ⌜ r < 2 ^ 33 ⌝ }
 {
     let cell = cell_of(homes, object::symbol_place(f, h, j));
     let value = object::listed_value(f, h, j) as u64;

@@ -12,7 +12,7 @@ abbrev pub EXTERN-WORDS : ℕ
 EXTERN-WORDS = 4
 
 module _ (f : List ℕ) (h : Header) (base undef : ℕ) (set : List ℕ) where
-  abbrev pub externWords : ℕ → List ℕ
+  unfoldable pub externWords : ℕ → List ℕ
   externWords e =
       (base + undef + SLOT-SIZE * e)
       ∷ getD set e 0

@@ -17,8 +17,8 @@ abbrev pub READ : ℕ
 READ = 1
 
 -- `starts` keeps each section's start
-module _ (f : List ℕ) (h : Header) (base : ℕ) (starts : List ℕ) (undef : ℕ) where
-  abbrev pub sectionWords : ℕ → List ℕ
+module _ (f : List ℕ) (h : Header) (base : ℕ) (starts : List ℕ) where
+  unfoldable pub sectionWords : ℕ → List ℕ
   sectionWords i =
       (base + getD starts i 0)
       ∷ (base + getD starts i 0 + rangeLength f h i)
@@ -30,15 +30,14 @@ module _ (f : List ℕ) (h : Header) (base : ℕ) (starts : List ℕ) (undef : �
       ∷ (i + 1)
       ∷ []
 
-  -- UNDEF: one page, readable, no bytes and no name in the file, no section's number
-  abbrev pub undefWords : List ℕ
-  undefWords =
-      (base + undef) ∷ (base + undef + PAGE-SIZE) ∷ 0 ∷ 0 ∷ READ ∷ 0 ∷ 0 ∷ 0 ∷ []
-
   -- the bytes of the records of the sections below i
   unfoldable pub sectionRecords : ℕ → List ℕ
   sectionRecords zero = []
   sectionRecords (suc i) = pick (loaded f h i) (sectionRecords i ++ wordBytes (sectionWords i)) (sectionRecords i)
 
-  abbrev pub sectionTable : List ℕ
-  sectionTable = sectionRecords (h .sections) ++ wordBytes undefWords
+-- UNDEF: one page, readable, no bytes and no name in the file, no section's number
+abbrev pub undefWords : ℕ → ℕ → List ℕ
+undefWords base undef = (base + undef) ∷ (base + undef + PAGE-SIZE) ∷ 0 ∷ 0 ∷ READ ∷ 0 ∷ 0 ∷ 0 ∷ []
+
+abbrev pub sectionTable : List ℕ → Header → ℕ → List ℕ → ℕ → List ℕ
+sectionTable f h base starts undef = sectionRecords f h base starts (h .sections) ++ wordBytes (undefWords base undef)

@@ -14,21 +14,22 @@ use Rattle.tables.specs.Words.{wordBytes, nameStart, nameLength}
 abbrev pub SYMBOL-WORDS : ℕ
 SYMBOL-WORDS = 6
 
-module _ (f : List ℕ) (h : Header) (base : ℕ) (map homes records : List ℕ) where
-  -- the home of a symbol is its section's record in the section table
-  abbrev pub symbolWords : ℕ → List ℕ
-  symbolWords j =
-      (base + listedOffset f h homes j)
-      ∷ kindNumber (kind f h j)
-      ∷ nameStart (symbolName f h j)
-      ∷ nameLength (symbolName f h j)
-      ∷ j
-      ∷ cellOf records (symbolPlace f h j)
-      ∷ []
+-- the home of a symbol is its section's record in the section table
+unfoldable pub symbolWords : List ℕ → Header → ℕ → List ℕ → List ℕ → ℕ → List ℕ
+symbolWords f h base homes records j =
+    (base + listedOffset f h homes j)
+    ∷ kindNumber (kind f h j)
+    ∷ nameStart (symbolName f h j)
+    ∷ nameLength (symbolName f h j)
+    ∷ j
+    ∷ cellOf records (symbolPlace f h j)
+    ∷ []
 
+module _ (f : List ℕ) (h : Header) (base : ℕ) (map homes records : List ℕ) where
   unfoldable pub symbolRecords : ℕ → List ℕ
   symbolRecords zero = []
-  symbolRecords (suc j) = pick (listed f h map homes j) (symbolRecords j ++ wordBytes (symbolWords j)) (symbolRecords j)
+  symbolRecords (suc j) =
+      pick (listed f h map homes j) (symbolRecords j ++ wordBytes (symbolWords f h base homes records j)) (symbolRecords j)
 
   abbrev pub symbolTable : List ℕ
   symbolTable = symbolRecords (h .symbols)

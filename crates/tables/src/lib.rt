@@ -1,6 +1,9 @@
-// The tables that load writes, as bytes.
+// The tables that load writes, as bytes: records of whole words.
+mod externs_table;
+mod sections;
+mod symbols;
 mod words;
 
-pub use words::name_length;
-pub use words::name_start;
-pub use words::put_words;
+pub use externs_table::write_externs;
+pub use sections::write_sections;
+pub use symbols::write_symbols;

@@ -1,5 +1,6 @@
 use borrow.Author.Needs.{needs}
 use Rattle.survey.proofs.Laws.{offsets}
+use native.Mathlib.Omega.{arith}
 use Rattle.survey.proofs.listed.listed_offset.Statement.{statement}
 use Rattle.survey.proofs.listed.listed_offset.Tie as tie
 
@@ -14,5 +15,5 @@ listed-offset-spec =
     (λ c. search (needs, offsets))
     (λ c. search (needs, offsets))
     (λ c. search (needs, offsets))
-    (λ c. search (needs, offsets))
-    (λ c. search (needs, offsets)))
+    (λ c. (search (needs, offsets), omega arith))
+    (λ c. (search (needs, offsets), omega arith)))
