@@ -1,6 +1,10 @@
 -- The tables of fixups and of skips (01, "Layout, slots and fixups"), in section and record order.
+use mathlib.Core.Path.{_≡_}
 use mathlib.Core.List.{List, [], _∷_, _++_}
-use Prim.Native.Nat.{ℕ, zero, suc, _+_}
+use lib.ListN.{length}
+use Rattle.le.specs.Le.{splice}
+use Rattle.tables.specs.declared.Places.{Places}
+use Prim.Native.Nat.{ℕ, zero, suc, _+_, _*_, _%_, _^_, _≤_}
 use Rattle.fixups.specs.declared.Skip.{Skip}
 use Rattle.fixups.specs.declared.Fix.{Fix}
 use Rattle.fixups.specs.declared.Outcome.{Outcome}
@@ -18,10 +22,11 @@ FIXUP-WORDS = 3
 abbrev pub SKIP-WORDS : ℕ
 SKIP-WORDS = 3
 
-abbrev pub fixWords : ℕ → Fix → List ℕ
-fixWords base x = (base + x .place) ∷ x .bits ∷ valueOf base x ∷ []
+-- the address of the place is below 2^64 for every file that is accepted
+unfoldable pub fixWords : ℕ → Fix → List ℕ
+fixWords base x = (base + x .place) % 2 ^ 64 ∷ x .bits ∷ valueOf base x ∷ []
 
-abbrev pub skipWords : ℕ → ℕ → Skip → List ℕ
+unfoldable pub skipWords : ℕ → ℕ → Skip → List ℕ
 skipWords i k s = (i + 1) ∷ k ∷ skipNumber s ∷ []
 
 -- what an outcome adds to each of the two
@@ -49,3 +54,24 @@ fixTable base o count n = sectionsTo (fixBytesAt base o) count n
 
 abbrev pub skipTable : (ℕ → ℕ → Outcome) → (ℕ → ℕ) → ℕ → List ℕ
 skipTable o count n = sectionsTo (skipBytesAt o) count n
+
+-- ---- what the parts of the pass promise: F and S written behind p's records, and counted
+pub record Written (p : Places) (F S b b′ c c′ : List ℕ) (q : Places) : Type 0 where
+  pub fixes : b′ ≡ splice b (24 * p .fixups) F
+  pub skips : c′ ≡ splice c (24 * p .skips) S
+  pub fixCount : 24 * q .fixups ≡ 24 * p .fixups + length F
+  pub skipCount : 24 * q .skips ≡ 24 * p .skips + length S
+
+-- no more than n records more
+pub record Near (p q : Places) (n : ℕ) : Type 0 where
+  pub fixes : q .fixups ≤ p .fixups + n
+  pub skips : q .skips ≤ p .skips + n
+
+pub record Step (p : Places) (F S b b′ c c′ : List ℕ) (q : Places) (n : ℕ) : Type 0 where
+  pub written : Written p F S b b′ c c′ q
+  pub near : Near p q n
+
+-- both tables, from their start
+pub record BothWritten (F S b b′ c c′ : List ℕ) : Type 0 where
+  pub fixes : b′ ≡ splice b 0 F
+  pub skips : c′ ≡ splice c 0 S
