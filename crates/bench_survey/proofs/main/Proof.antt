@@ -1,0 +1,15 @@
+use borrow.Author.Needs.{needs}
+use Rattle.bench_survey.proofs.Laws.{zeros-long}
+use Rattle.bench_survey.proofs.main.Statement.{statement}
+use Rattle.bench_survey.proofs.main.Tie as tie
+
+pub main-spec : {M : Type 1} → statement M
+main-spec =
+    tie.close
+    (tie.spec
+    (λ c. search needs)
+    (λ c. search needs)
+    (λ c. search needs)
+    (λ c. zeros-long 4194304)
+    (λ c. search needs)
+    (λ c. search needs))
