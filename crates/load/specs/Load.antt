@@ -20,6 +20,7 @@ use Rattle.externs.specs.Slot.{slotOf}
 use Rattle.survey.specs.declared.answer.Counts.{Counts}
 use Rattle.survey.specs.declared.answer.Survey.{Survey}
 use Rattle.survey.specs.Survey.{Check, check, firstFailed, checks, counts, ownMap, homes, outcomesBy, answerBy}
+use Rattle.load.specs.declared.Lengths.{Lengths}
 use Rattle.tables.specs.Sections.{sectionTable}
 use Rattle.tables.specs.Symbols.{symbolTable}
 use Rattle.tables.specs.Externs.{externTable}
@@ -45,15 +46,34 @@ unfoldable pub baseOk : ℕ → Bool
 baseOk base = eqb (base % PAGE-SIZE) 0 && leb base MAX-BASE
 
 -- 13: each buffer has room for what is counted
-unfoldable pub roomOk : Counts → Storage → Bool
-roomOk c s =
-    leb (PAGE-SIZE * c .pages) (length (s .image))
-    && (leb (8 * markCount (c .pages)) (length (s .marks))
-    && (leb (64 * c .sections) (length (s .sections))
-    && (leb (48 * c .symbols) (length (s .symbols))
-    && (leb (32 * c .externs) (length (s .externs))
-    && (leb (24 * c .fixups) (length (s .fixups))
-    && leb (24 * c .skips) (length (s .skips)))))))
+unfoldable pub layoutRoom : Counts → Lengths → Bool
+layoutRoom c l =
+    leb (PAGE-SIZE * c .pages) (l .image) && (leb (8 * markCount (c .pages)) (l .marks) && leb (64 * c .sections) (l .sections))
+
+unfoldable pub listsRoom : Counts → Lengths → Bool
+listsRoom c l =
+    leb (48 * c .symbols) (l .symbols)
+    && (leb (32 * c .externs) (l .externs)
+    && (leb (24 * c .fixups) (l .fixups)
+    && leb (24 * c .skips) (l .skips)))
+
+abbrev pub roomFor : Counts → Lengths → Bool
+roomFor c l = layoutRoom c l && listsRoom c l
+
+abbrev pub lengthsOf : Storage → Lengths
+lengthsOf s =
+    record {
+      image = length (s .image);
+      marks = length (s .marks);
+      sections = length (s .sections);
+      symbols = length (s .symbols);
+      externs = length (s .externs);
+      fixups = length (s .fixups);
+      skips = length (s .skips);
+    }
+
+abbrev pub roomOk : Counts → Storage → Bool
+roomOk c s = roomFor c (lengthsOf s)
 
 -- what is written: by the map of own records, homes, the extern names' numbers and the search for slots
 module _ (f : List ℕ) (h : Header) (base : ℕ) (map homes set : List ℕ) (slot : List ℕ → Found) where
@@ -76,12 +96,12 @@ stored f h base s = storedBy f h base (ownMap f h) (homes f h) (externs f h) (sl
 abbrev pub loadChecks : List ℕ → Header → ℕ → Storage → List Check
 loadChecks f h base s = check (baseOk base) BASE ∷ (checks f h ++ (check (roomOk (counts f h) s) STORAGE ∷ []))
 
--- the answer, and the storage at exit
-abbrev pub loadCode : List ℕ → ℕ → Storage → ℕ
-loadCode f base s = firstFailed (loadChecks f (headerOf f) base s)
+-- by a code: the counts and the new contents, or the refusal and what there was
+pub record LoadIs (code : ℕ) (c : Counts) (new old after : Storage) (r : Survey) : Type 0 where
+  pub says : r ≡ answerBy code c
+  pub leaves : after ≡ pick (eqb code 0) new old
 
-abbrev pub loadOf : List ℕ → ℕ → Storage → Survey
-loadOf f base s = answerBy (loadCode f base s) (counts f (headerOf f))
-
-abbrev pub storageOf : List ℕ → ℕ → Storage → Storage
-storageOf f base s = pick (eqb (loadCode f base s) 0) (stored f (headerOf f) base s) s
+-- load's answer, and the storage at exit
+abbrev pub Loads : List ℕ → ℕ → Storage → Storage → Survey → Type 0
+Loads f base s s′ r =
+    LoadIs (firstFailed (loadChecks f (headerOf f) base s)) (counts f (headerOf f)) (stored f (headerOf f) base s) s s′ r

@@ -1,1 +1,333 @@
-// Load: tables, marks and image into lent storage at a base. So far the definitions, in specs/; the tables and the image are written by `tables` and `image`.
+// Load: tables, marks and image into lent storage at a base, or a refusal that changes nothing. So far its definitions, checks 12 and 13, and the
+// writing of everything into buffers that have room; the chain from refusal 1 to 11 in front of them is not built yet.
+use arch::Arch;
+use object::Header;
+use survey::Counts;
+use survey::Survey;
+ghost use mathlib.Core.Path.{_≡_};
+ghost use Prim.Native.Nat.{_≤_};
+ghost use lib.ListN.{length};
+ghost use Rattle.externs.specs.Bisect.{bisect};
+ghost use Rattle.layout.specs.Layout.{undefStart, mappedPages, startsTo};
+ghost use Rattle.layout.specs.Home.{recordsTo};
+ghost use Rattle.load.specs.Load.{baseOk, layoutRoom, listsRoom, roomFor, storedBy, LoadIs};
+ghost use Rattle.load.specs.Loading.{LayoutIs, NamesAre, Limits, Planned, storage, roomCode};
+
+// The bytes of each lent buffer.
+struct Lengths {
+    image: u64,
+    marks: u64,
+    sections: u64,
+    symbols: u64,
+    externs: u64,
+    fixups: u64,
+    skips: u64,
+}
+
+pub const MAX_BASE: u64 = 0x7F000000;
+
+// 12: the base is a page multiple and not too high.
+fn base_ok(base: u64) -> bool
+    ensures { λ r. ⌜ r ≡ baseOk base ⌝ }
+{
+    let on_page = base % 4096 == 0;
+    if on_page { base <= MAX_BASE } else { false }
+}
+
+// The first three buffers have room.
+fn layout_room(c: Counts, l: Lengths) -> bool
+    requires { ⌜ c .pages ≤ 4096 ⌝ }
+    ensures { λ r. ⌜ r ≡ layoutRoom c l ⌝ }
+{
+    let image = c.pages <= l.image / 4096;
+    if image {
+        let marks = (c.pages + 63) / 64 <= l.marks / 8;
+        if marks {
+            c.sections <= l.sections / 64
+        } else {
+            false
+        }
+    } else {
+        false
+    }
+}
+
+// The other four have room.
+fn lists_room(c: Counts, l: Lengths) -> bool
+    ensures { λ r. ⌜ r ≡ listsRoom c l ⌝ }
+{
+    let symbols = c.symbols <= l.symbols / 48;
+    if symbols {
+        let externs = c.externs <= l.externs / 32;
+        if externs {
+            let fixups = c.fixups <= l.fixups / 24;
+            if fixups {
+                c.skips <= l.skips / 24
+            } else {
+                false
+            }
+        } else {
+            false
+        }
+    } else {
+        false
+    }
+}
+
+// 13: each lent buffer has room for what is counted.
+fn room_ok(c: Counts, l: Lengths) -> bool
+    requires { ⌜ c .pages ≤ 4096 ⌝ }
+    ensures { λ r. ⌜ r ≡ roomFor c l ⌝ }
+{
+    if layout_room(c, l) {
+        lists_room(c, l)
+    } else {
+        false
+    }
+}
+
+fn write_laid(
+    f: &[u8],
+    h: Header,
+    base: u32,
+    starts: &[u32],
+    undef: u32,
+    pages: u32,
+    n: u32,
+    sections: &mut [u8],
+    image: &mut [u8],
+    marks: &mut [u8],
+)
+    ensures { λ _.
+        ⌜ LayoutIs (now (f .entry)) h base (now (starts .entry)) undef pages n (now (sections .entry)) (now (sections .exit)) (now (image .entry)) (now (image .exit))
+        (now (marks .entry)) (now (marks .exit)) ⌝ }
+{
+    tables::write_sections(f, h, base, starts, undef, sections);
+    image::lay(f, h, starts, pages, base, undef, n, image);
+    image::put_marks(pages, marks);
+}
+
+// The section table, the image and its marks; the starts are filled once.
+fn write_layout(
+    f: &[u8],
+    h: Header,
+    base: u32,
+    undef: u32,
+    pages: u32,
+    n: u32,
+    sections: &mut [u8],
+    image: &mut [u8],
+    marks: &mut [u8],
+)
+    requires { ⌜ h .sections ≤ 256 ⌝ }
+    ensures { λ _.
+        ⌜ LayoutIs (now (f .entry)) h base (startsTo (now (f .entry)) h (h .sections)) undef pages n (now (sections .entry)) (now (sections .exit)) (now (image .entry))
+        (now (image .exit)) (now (marks .entry)) (now (marks .exit)) ⌝ }
+{
+    let mut starts = [0u32; 256];
+    layout::fill_starts(f, h, &mut starts);
+    write_laid(
+        f,
+        h,
+        base,
+        le::words(&starts, h.sections as usize),
+        undef,
+        pages,
+        n,
+        sections,
+        image,
+        marks,
+    );
+}
+
+fn write_listed(
+    f: &[u8],
+    h: Header,
+    base: u32,
+    map: &[u8],
+    homes: &[u32],
+    records: &[u32],
+    undef: u32,
+    n: u32,
+    set: &[u32],
+    symbols: &mut [u8],
+    externs: &mut [u8],
+)
+    ensures { λ _.
+        ⌜ NamesAre (now (f .entry)) h base (now (map .entry)) (now (homes .entry)) (now (records .entry)) undef n (now (set .entry)) (now (symbols .entry))
+        (now (symbols .exit)) (now (externs .entry)) (now (externs .exit)) ⌝ }
+{
+    tables::write_symbols(f, h, base, map, homes, records, symbols);
+    tables::write_externs(f, h, base, undef, set, n, externs);
+}
+
+// The tables of symbols and of extern names; the homes' records are filled once.
+fn write_names(
+    f: &[u8],
+    h: Header,
+    base: u32,
+    map: &[u8],
+    homes: &[u32],
+    undef: u32,
+    n: u32,
+    set: &[u32],
+    symbols: &mut [u8],
+    externs: &mut [u8],
+)
+    requires { ⌜ h .sections ≤ 256 ⌝ }
+    ensures { λ _.
+        ⌜ NamesAre (now (f .entry)) h base (now (map .entry)) (now (homes .entry)) (recordsTo (now (f .entry)) h (h .sections)) undef n (now (set .entry))
+        (now (symbols .entry)) (now (symbols .exit)) (now (externs .entry)) (now (externs .exit)) ⌝ }
+{
+    let mut records = [0u32; 256];
+    layout::fill_records(f, h, &mut records);
+    write_listed(
+        f,
+        h,
+        base,
+        map,
+        homes,
+        le::words(&records, h.sections as usize),
+        undef,
+        n,
+        set,
+        symbols,
+        externs,
+    );
+}
+
+// Everything that is counted, into buffers that have room for it.
+fn write_all(
+    arch: Arch,
+    f: &[u8],
+    h: Header,
+    base: u32,
+    map: &[u8],
+    homes: &[u32],
+    set: &[u32],
+    undef: u32,
+    pages: u32,
+    n: u32,
+    image: &mut [u8],
+    marks: &mut [u8],
+    sections: &mut [u8],
+    symbols: &mut [u8],
+    externs: &mut [u8],
+    fixups: &mut [u8],
+    skips: &mut [u8],
+)
+    requires { ⌜ Planned (now f) h (now set) arch undef pages n ⌝ }
+    ensures { λ _.
+        ⌜ storage (now (image .exit)) (now (marks .exit)) (now (sections .exit)) (now (symbols .exit)) (now (externs .exit)) (now (fixups .exit)) (now (skips .exit))
+        ≡ storedBy (now (f .entry)) h base (now (map .entry)) (now (homes .entry)) (now (set .entry)) (bisect (now (f .entry)) h (now (set .entry)))
+        (storage (now (image .entry)) (now (marks .entry)) (now (sections .entry)) (now (symbols .entry)) (now (externs .entry)) (now (fixups .entry)) (now (skips .entry))) ⌝ }
+{
+    write_layout(f, h, base, undef, pages, n, sections, image, marks);
+    write_names(f, h, base, map, homes, undef, n, set, symbols, externs);
+    tables::write_relocations(arch, f, h, map, homes, undef, set, base, fixups, skips);
+}
+
+fn write_counted(
+    f: &[u8],
+    h: Header,
+    base: u32,
+    map: &[u8],
+    homes: &[u32],
+    set: &[u32],
+    image: &mut [u8],
+    marks: &mut [u8],
+    sections: &mut [u8],
+    symbols: &mut [u8],
+    externs: &mut [u8],
+    fixups: &mut [u8],
+    skips: &mut [u8],
+)
+    requires { ⌜ Limits (now f) h (now set) ⌝ }
+    ensures { λ _.
+        ⌜ storage (now (image .exit)) (now (marks .exit)) (now (sections .exit)) (now (symbols .exit)) (now (externs .exit)) (now (fixups .exit)) (now (skips .exit))
+        ≡ storedBy (now (f .entry)) h base (now (map .entry)) (now (homes .entry)) (now (set .entry)) (bisect (now (f .entry)) h (now (set .entry)))
+        (storage (now (image .entry)) (now (marks .entry)) (now (sections .entry)) (now (symbols .entry)) (now (externs .entry)) (now (fixups .entry)) (now (skips .entry))) ⌝ }
+{
+    let undef = survey::undef_offset(f, h);
+    let pages = survey::page_total(f, h);
+    let arch = survey::machine_of(h);
+    let n = set.len() as u32;
+    write_all(
+        arch,
+        f,
+        h,
+        base,
+        map,
+        homes,
+        set,
+        undef,
+        pages,
+        n,
+        image,
+        marks,
+        sections,
+        symbols,
+        externs,
+        fixups,
+        skips,
+    );
+}
+
+// 13, or everything is written.
+fn load_room(
+    f: &[u8],
+    h: Header,
+    base: u32,
+    map: &[u8],
+    homes: &[u32],
+    set: &[u32],
+    c: Counts,
+    image: &mut [u8],
+    marks: &mut [u8],
+    sections: &mut [u8],
+    symbols: &mut [u8],
+    externs: &mut [u8],
+    fixups: &mut [u8],
+    skips: &mut [u8],
+) -> Survey
+    requires { ⌜ Limits (now f) h (now set) × (c .pages ≤ 4096) ⌝ }
+    ensures { λ r.
+        ⌜ LoadIs
+        (roomCode c (storage (now (image .entry)) (now (marks .entry)) (now (sections .entry)) (now (symbols .entry)) (now (externs .entry)) (now (fixups .entry)) (now (skips .entry))))
+        c
+        (storedBy (now (f .entry)) h base (now (map .entry)) (now (homes .entry)) (now (set .entry)) (bisect (now (f .entry)) h (now (set .entry)))
+        (storage (now (image .entry)) (now (marks .entry)) (now (sections .entry)) (now (symbols .entry)) (now (externs .entry)) (now (fixups .entry)) (now (skips .entry))))
+        (storage (now (image .entry)) (now (marks .entry)) (now (sections .entry)) (now (symbols .entry)) (now (externs .entry)) (now (fixups .entry)) (now (skips .entry)))
+        (storage (now (image .exit)) (now (marks .exit)) (now (sections .exit)) (now (symbols .exit)) (now (externs .exit)) (now (fixups .exit)) (now (skips .exit)))
+        r ⌝ }
+{
+    let l = Lengths {
+        image: image.len() as u64,
+        marks: marks.len() as u64,
+        sections: sections.len() as u64,
+        symbols: symbols.len() as u64,
+        externs: externs.len() as u64,
+        fixups: fixups.len() as u64,
+        skips: skips.len() as u64,
+    };
+    if room_ok(c, l) {
+        write_counted(
+            f,
+            h,
+            base,
+            map,
+            homes,
+            set,
+            image,
+            marks,
+            sections,
+            symbols,
+            externs,
+            fixups,
+            skips,
+        );
+        Survey::Accepted(c)
+    } else {
+        Survey::Refused(refusal::STORAGE)
+    }
+}

@@ -8,7 +8,7 @@ use native.Mathlib.Numerals.{add-one}
 use lib.Dec.{eqb, leb}
 use lib.ListN.{getD, length, take, drop, replicate, length-replicate, length-take}
 use borrow.Author.Tests.{eq-eqb, ne-eqb, le-leb, lt-leb, not-true, not-false, leb-true}
-use Rattle.refusal.specs.Refusal.{EXTERNS, TARGET, PLACE}
+use Rattle.refusal.specs.Refusal.{PAGES, EXTERNS, TARGET, PLACE}
 use mathlib.Core.Logic.{_⊎_, ⊎-elim}
 use Rattle.util.specs.Pick.{pick, yes-no, and-left}
 use Rattle.util.specs.Prefix.{countTo}
@@ -19,7 +19,7 @@ use Rattle.arch.specs.declared.Machine.the-variants.{Known, Unknown}
 use Rattle.arch.specs.Machine.{archOf}
 use Rattle.arch.specs.Page.{pageOf}
 use Rattle.le.specs.Le.{get, splice, part, part-splice}
-use Rattle.checks.specs.Checks.{sectionTableOk, symbolTableOk, stringsOk}
+use Rattle.checks.specs.Checks.{sectionTableOk, symbolTableOk, stringsOk, pagesOk}
 use Rattle.object.specs.declared.Header.{Header}
 use Rattle.object.specs.declared.Place.{Place}
 use Rattle.object.specs.declared.Place.the-variants.{In, Undefined, Common, Absolute, Nowhere, Other}
@@ -36,14 +36,17 @@ use Rattle.externs.specs.Bisect.{bisect}
 use Rattle.externs.specs.Externs.{externs, externsBy, Holds}
 use Rattle.externs.specs.Slot.{slotOf}
 use Rattle.externs.specs.BisectLaws.{bisect-externs}
+use Rattle.object.specs.Section.{relocationCount}
+use Rattle.fixups.specs.Outcome.{outcome}
+use Rattle.fixups.specs.Tally.{tallyOf}
 use Rattle.fixups.specs.declared.Tally.{Tally}
 use Rattle.survey.specs.declared.answer.Counts.{Counts}
 use Rattle.survey.specs.declared.answer.Survey.{Survey}
 use Rattle.survey.specs.declared.answer.Survey.the-variants.{Accepted, Refused}
 use Rattle.survey.specs.Listed.{cellOf, listed, listedOffset, listedTotal}
 use Rattle.survey.specs.Survey.{Check, check, firstFailed, recordChecks, targetChecks, externChecks, archBy, tallyBy, countsBy, ownMap, homes, tally, checks, counts, answerBy, surveyOf}
-use Rattle.survey.specs.SurveyLaws.{Ordered, ordered, failed-first}
-use Rattle.survey.specs.Surveying.{Fits, answerFor, answerWith}
+use Rattle.survey.specs.SurveyLaws.{Ordered, ordered, failed-first, records-rest, says-refused, filled, fits-is}
+use Rattle.survey.specs.Surveying.{Fits, plannedBy, answerFor, answerWith}
 
 -- ---- listed symbols
 module _ (homes : List ℕ) (p : Place) where
@@ -137,14 +140,30 @@ module _ (k : ℕ) (m : Machine) where
 
 pub ruleset machines = (machine-known, machine-unknown)
 
-module _ (f : List ℕ) (h : Header) (x : ℕ) where
-  pub undef-fits : x ≡ undefStart f h → mappedPages f h ≤ 4096 → x % 4294967296 ≡ undefStart f h
-  undef-fits e p = omega arith
+module _ (f : List ℕ) (h : Header) (map homes set : List ℕ) where
+  -- of an image of at most 4,096 pages both fit
+  pub tally-fits : (a : Arch) (undef pages : ℕ) (r : Tally) → a ≡ archBy (archOf (h .machine)) → undef ≡ undefStart f h % 2 ^ 32 → pages ≡ mappedPages f h % 2 ^ 32 → mappedPages f h ≤ 4096
+      → r ≡ tallyOf pages (outcome a f h map homes undef (bisect f h set)) (relocationCount f h) (h .sections) → r ≡ tallyBy f h map homes (bisect f h set)
+  tally-fits a undef pages r e q p k d =
+      let x : undef ≡ undefStart f h = omega arith in
+      let y : pages ≡ mappedPages f h = omega arith in
+      rw (y, x, e) at d
 
-  pub pages-fit : x ≡ mappedPages f h → mappedPages f h ≤ 4096 → x % 4294967296 ≡ mappedPages f h
-  pages-fit e p = omega arith
+module _ (f : List ℕ) (h : Header) (map homes set : List ℕ) where
+  pub planned-yes : (b : Bool) (x : Survey) → b ≡ pagesOk f h → b ≡ true
+      → x ≡ answerBy (firstFailed (targetChecks (tallyBy f h map homes (bisect f h set)))) (countsBy f h map homes (length set) (tallyBy f h map homes (bisect f h set)))
+      → x ≡ plannedBy f h map homes set
+  unfolding firstFailed pick
+  planned-yes b x q e d = rw (← q, e) d
 
-pub ruleset fitting = (undef-fits, pages-fit)
+  pub planned-no : (b : Bool) → b ≡ pagesOk f h → b ≡ false → Refused PAGES ≡ plannedBy f h map homes set
+  unfolding firstFailed answerBy pick
+  planned-no b q e = rw (← q, e)
+
+pub pages-few : (f : List ℕ) (h : Header) (b : Bool) → b ≡ pagesOk f h → b ≡ true → mappedPages f h ≤ 4096
+pages-few f h b q e = leb-true (mappedPages f h) 4096 (sym q ∙ e)
+
+pub ruleset planned = (planned-yes, planned-no, pages-few)
 
 -- ---- the answer
 module _ (t : Tally) (c : Counts) where
@@ -187,14 +206,6 @@ module _ (f : List ℕ) (h : Header) (map homes s : List ℕ) (r : Names) where
 pub ruleset extern-ways = (externs-over, externs-fit)
 
 -- ---- the arrays
-part-whole : (z vs : List ℕ) (n : ℕ) → length vs ≡ n → n ≤ length z → part (splice z 0 vs) 0 n ≡ vs
-part-whole z vs n e k = rw (← e) (part-splice z 0 vs (omega arith))
-
-filled : (vs m w : List ℕ) (size n : ℕ) → m ≡ splice (replicate size 0) 0 vs → length vs ≡ n → n ≤ size → w ≡ part m 0 n → w ≡ vs
-filled vs m w size n e l k q =
-    let r : length {A = ℕ} (replicate size 0) ≡ size = length-replicate {A = ℕ} size 0 in
-    q ∙ ap (λ (x : List ℕ). part x 0 n) e ∙ part-whole (replicate size 0) vs n l (omega arith)
-
 module _ (f : List ℕ) (h : Header) (x : Survey) where
   pub map-filled : (hs m w : List ℕ) → m ≡ splice (replicate 16384 0) 0 (primaries f h (h .symbols)) → h .symbols ≤ 16384 → w ≡ part m 0 (h .symbols)
       → x ≡ answerWith f h w hs → x ≡ answerWith f h (ownMap f h) hs
@@ -211,29 +222,6 @@ module _ (f : List ℕ) (h : Header) (x : Survey) where
 pub ruleset arrays = (map-filled, homes-filled)
 
 -- ---- the whole
-records-rest : (f : List ℕ) (h : Header) (cs : List Check) → Ordered f h → firstFailed (recordChecks f h ++ cs) ≡ firstFailed cs
-unfolding firstFailed pick
-records-rest f h cs o = rw (o .size, o .machine, o .sectionTable, o .symbolTable, o .sections, o .names, o .numbers, o .pages)
-
-no-table : (f : List ℕ) → eqb ((headerOf f) .«symbol_table») 0 ≡ true → (headerOf f) .symbols ≡ 0
-unfolding headerOf pick
-no-table f e = rw e
-
-few-symbols : (f : List ℕ) (h : Header) → h ≡ headerOf f → symbolTableOk f h ≡ true → h .symbols ≤ 16384
-unfolding symbolTableOk
-few-symbols f h q e =
-    ⊎-elim (λ t. let z : h .symbols ≡ 0 = rw q (no-table f (rw q at t)) in omega arith)
-    (λ t. leb-true (h .symbols) 16384 (and-left (leb (h .symbols) 16384) _ (rw t at e)))
-    (yes-no (eqb (h .«symbol_table») 0))
-
-few-sections : (f : List ℕ) (h : Header) → sectionTableOk f h ≡ true → h .sections ≤ 256
-unfolding sectionTableOk
-few-sections f h e = leb-true (h .sections) 256 (and-left (leb (h .sections) 256) _ e)
-
-says-refused : (code : ℕ) (c : Counts) → (code ≡ 0 → ⊥) → Refused code ≡ answerBy code c
-unfolding answerBy pick
-says-refused code c z = rw (ne-eqb code 0 z)
-
 refused-by : (f : List ℕ) (h : Header) (code : ℕ) → code ≡ firstFailed (recordChecks f h) → (code ≡ 0 → ⊥) → Refused code ≡ answerBy (firstFailed (checks f h)) (counts f h)
 refused-by f h zero e z = absurd (z refl)
 refused-by f h (suc n) e z =
@@ -241,15 +229,6 @@ refused-by f h (suc n) e z =
     says-refused (suc n) (counts f h) z ∙ ap (λ (k : ℕ). answerBy k (counts f h)) (sym g)
 
 module _ (f : List ℕ) (h : Header) (code : ℕ) where
-  pub fits-is : h ≡ headerOf f → code ≡ firstFailed (recordChecks f h) → code ≡ 0 → Fits f h
-  fits-is q e z =
-      let o : Ordered f h = ordered f h [] (sym e ∙ z) in
-      record {
-        sections = few-sections f h (o .sectionTable);
-        symbols = few-symbols f h q (o .symbolTable);
-        pages = leb-true (mappedPages f h) 4096 (o .pages);
-      }
-
   pub survey-yes : (x : Survey) → h ≡ headerOf f → code ≡ firstFailed (recordChecks f h) → code ≡ 0 → x ≡ answerWith f h (ownMap f h) (homes f h) → x ≡ surveyOf f
   survey-yes x q e z d =
       let o : Ordered f h = ordered f h [] (sym e ∙ z) in

@@ -43,7 +43,7 @@ use Rattle.survey.specs.declared.answer.Counts.{Counts}
 use Rattle.survey.specs.declared.answer.Survey.{Survey}
 use Rattle.survey.specs.declared.answer.Survey.the-variants.{Accepted, Refused}
 use Rattle.survey.specs.Survey.{firstFailed, externChecks, targetChecks, ownMap, homes, outcomes, tally, countsBy, counts, checks, answerBy, surveyOf}
-use Rattle.survey.specs.SurveyLaws.{check-holds, checks-hold, Ordered, ordered, ordered-rest}
+use Rattle.survey.specs.SurveyLaws.{check-holds, checks-hold, Ordered, ordered, ordered-rest, tells-accepted}
 
 -- data and text outside the sections put their names
 puts-by : (k : SymbolKind) (p : Place) (taken : Bool) → (k ≡ kinds.Data) ⊎ (k ≡ kinds.Text) → outside p ≡ true → putsBy k p taken ≡ true
@@ -51,23 +51,15 @@ unfolding putsBy
 puts-by k p taken d t = ⊎-elim (λ e. rw e t) (λ e. rw e t) d
 
 -- ---- all checks pass, and the counts are the definition's
-by-code : (code : ℕ) (a c : Counts) → answerBy code a ≡ Accepted c → (code ≡ 0) × (a ≡ c)
-unfolding answerBy pick
-by-code zero a c e = (refl, cc)
-by-code (suc n) a c e =
-    let t : eqb (suc n) 0 ≡ false = ne-eqb (suc n) 0 (λ z. absurd (omega arith)) in
-    let z : Refused (suc n) ≡ Accepted c = rw t at e in
-    absurd (let w : _≡_ {A = ℕ} 0 1 = cc in omega arith)
-
 module _ (f : List ℕ) (c : Counts) (accepted : surveyOf f ≡ Accepted c) where
   abbrev header : Header
   header = headerOf f
 
   no-failure : firstFailed (checks f header) ≡ 0
-  no-failure = (by-code (firstFailed (checks f header)) (counts f header) c accepted) .0
+  no-failure = (tells-accepted (firstFailed (checks f header)) (counts f header) c accepted) .0
 
   pub counts-are : counts f header ≡ c
-  counts-are = (by-code (firstFailed (checks f header)) (counts f header) c accepted) .1
+  counts-are = (tells-accepted (firstFailed (checks f header)) (counts f header) c accepted) .1
 
   pub records-ordered : Ordered f header
   records-ordered = ordered f header (externChecks (length (externs f header)) ++ targetChecks (tally f header)) no-failure

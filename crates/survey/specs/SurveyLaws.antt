@@ -6,7 +6,7 @@ use mathlib.Core.Logic.{_⊎_, inl, inr, ⊎-elim}
 use Prim.Native.Nat.{ℕ, zero, suc, _+_, _≤_, _<_}
 use native.Mathlib.Omega.{arith}
 use lib.Dec.{leb, eqb}
-use lib.ListN.{length}
+use lib.ListN.{length, replicate, length-replicate}
 use borrow.Author.Tests.{leb-true, eq-eqb, ne-eqb}
 use Rattle.refusal.specs.Refusal.{FILE-SIZE, MACHINE, SECTION-TABLE, SYMBOL-TABLE, SECTION-DATA, NAME, SECTION-NUMBER, PAGES, EXTERNS, TARGET, PLACE}
 use Rattle.util.specs.Pick.{pick, yes-no, and-left, and-right, passed, passed-on}
@@ -21,6 +21,8 @@ use Rattle.survey.specs.declared.answer.Counts.{Counts}
 use Rattle.survey.specs.declared.answer.Survey.{Survey}
 use Rattle.survey.specs.declared.answer.Survey.the-variants.{Accepted, Refused}
 use Rattle.survey.specs.Survey.{Check, check, firstFailed, recordChecks, externChecks, targetChecks, tally, counts, checks, answerBy, surveyOf}
+use Rattle.survey.specs.Surveying.{Fits}
+use Rattle.le.specs.Le.{splice, part, part-splice}
 
 -- ---- a list of checks without a failure
 module _ (ok : Bool) (n : ℕ) (cs : List Check) where
@@ -82,3 +84,64 @@ module _ (f : List ℕ) (h : Header) (cs : List Check) where
       let e6 = checks-hold _ _ _ e5 in
       let e7 = checks-hold _ _ _ e6 in
       checks-hold _ _ _ e7
+
+-- where they are in order, the checks behind them decide
+pub records-rest : (f : List ℕ) (h : Header) (cs : List Check) → Ordered f h → firstFailed (recordChecks f h ++ cs) ≡ firstFailed cs
+unfolding firstFailed pick
+records-rest f h cs o = rw (o .size, o .machine, o .sectionTable, o .symbolTable, o .sections, o .names, o .numbers, o .pages)
+
+pub says-refused : (code : ℕ) (c : Counts) → (code ≡ 0 → ⊥) → Refused code ≡ answerBy code c
+unfolding answerBy pick
+says-refused code c z = rw (ne-eqb code 0 z)
+
+-- an answer tells its code
+pub tells-accepted : (code : ℕ) (a c : Counts) → answerBy code a ≡ Accepted c → (code ≡ 0) × (a ≡ c)
+unfolding answerBy pick
+tells-accepted zero a c e = (refl, cc)
+tells-accepted (suc n) a c e =
+    let t : eqb (suc n) 0 ≡ false = ne-eqb (suc n) 0 (λ z. absurd (omega arith)) in
+    let z : Refused (suc n) ≡ Accepted c = rw t at e in
+    absurd (let w : _≡_ {A = ℕ} 0 1 = cc in omega arith)
+
+pub tells-refused : (code : ℕ) (a : Counts) (n : ℕ) → answerBy code a ≡ Refused n → (code ≡ n) × (code ≡ 0 → ⊥)
+unfolding answerBy pick
+tells-refused zero a n e = absurd (let w : _≡_ {A = ℕ} 0 1 = cc in omega arith)
+tells-refused (suc k) a n e =
+    let t : eqb (suc k) 0 ≡ false = ne-eqb (suc k) 0 (λ z. absurd (omega arith)) in
+    let z : Refused (suc k) ≡ Refused n = rw t at e in
+    (cc, λ q. absurd (omega arith))
+
+-- ---- the local arrays hold the file's records
+no-table : (f : List ℕ) → eqb ((headerOf f) .«symbol_table») 0 ≡ true → (headerOf f) .symbols ≡ 0
+unfolding headerOf pick
+no-table f e = rw e
+
+few-symbols : (f : List ℕ) (h : Header) → h ≡ headerOf f → symbolTableOk f h ≡ true → h .symbols ≤ 16384
+unfolding symbolTableOk
+few-symbols f h q e =
+    ⊎-elim (λ t. let z : h .symbols ≡ 0 = rw q (no-table f (rw q at t)) in omega arith)
+    (λ t. leb-true (h .symbols) 16384 (and-left (leb (h .symbols) 16384) _ (rw t at e)))
+    (yes-no (eqb (h .«symbol_table») 0))
+
+few-sections : (f : List ℕ) (h : Header) → sectionTableOk f h ≡ true → h .sections ≤ 256
+unfolding sectionTableOk
+few-sections f h e = leb-true (h .sections) 256 (and-left (leb (h .sections) 256) _ e)
+
+module _ (f : List ℕ) (h : Header) (code : ℕ) where
+  pub fits-is : h ≡ headerOf f → code ≡ firstFailed (recordChecks f h) → code ≡ 0 → Fits f h
+  fits-is q e z =
+      let o : Ordered f h = ordered f h [] (sym e ∙ z) in
+      record {
+        sections = few-sections f h (o .sectionTable);
+        symbols = few-symbols f h q (o .symbolTable);
+        pages = leb-true (mappedPages f h) 4096 (o .pages);
+      }
+
+-- a list that was put at the front of a cleared array, and taken from it
+part-whole : (z vs : List ℕ) (n : ℕ) → length vs ≡ n → n ≤ length z → part (splice z 0 vs) 0 n ≡ vs
+part-whole z vs n e k = rw (← e) (part-splice z 0 vs (omega arith))
+
+pub filled : (vs m w : List ℕ) (size n : ℕ) → m ≡ splice (replicate size 0) 0 vs → length vs ≡ n → n ≤ size → w ≡ part m 0 n → w ≡ vs
+filled vs m w size n e l k q =
+    let r : length {A = ℕ} (replicate size 0) ≡ size = length-replicate {A = ℕ} size 0 in
+    q ∙ ap (λ (x : List ℕ). part x 0 n) e ∙ part-whole (replicate size 0) vs n l (omega arith)

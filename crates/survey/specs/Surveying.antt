@@ -1,13 +1,15 @@
 -- What the parts of survey promise and ask.
-use mathlib.Core.List.{List, _++_}
+use mathlib.Core.List.{List, _∷_, _++_}
 use Prim.Native.Nat.{ℕ, _≤_}
 use lib.ListN.{length}
 use Rattle.object.specs.declared.Header.{Header}
 use Rattle.layout.specs.Layout.{mappedPages}
+use Rattle.refusal.specs.Refusal.{PAGES}
+use Rattle.checks.specs.Checks.{pagesOk}
 use Rattle.externs.specs.Bisect.{bisect}
 use Rattle.externs.specs.Externs.{externsBy}
 use Rattle.survey.specs.declared.answer.Survey.{Survey}
-use Rattle.survey.specs.Survey.{firstFailed, externChecks, targetChecks, tallyBy, countsBy, answerBy}
+use Rattle.survey.specs.Survey.{check, firstFailed, externChecks, targetChecks, tallyBy, countsBy, answerBy}
 
 -- the file's records fit the limits, so that the local arrays hold them
 pub record Fits (f : List ℕ) (h : Header) : Type 0 where
@@ -17,6 +19,12 @@ pub record Fits (f : List ℕ) (h : Header) : Type 0 where
 
 -- the answer by a map of the symbols' own records, homes, and extern names
 module _ (f : List ℕ) (h : Header) (map homes : List ℕ) where
+  -- with the extern names known, and the image not too large
+  abbrev pub plannedBy : List ℕ → Survey
+  plannedBy set =
+      answerBy (firstFailed (check (pagesOk f h) PAGES ∷ targetChecks (tallyBy f h map homes (bisect f h set))))
+      (countsBy f h map homes (length set) (tallyBy f h map homes (bisect f h set)))
+
   abbrev pub answerFor : List ℕ → Survey
   answerFor set =
       answerBy (firstFailed (externChecks (length set) ++ targetChecks (tallyBy f h map homes (bisect f h set))))

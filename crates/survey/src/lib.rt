@@ -15,16 +15,16 @@ pub use listed::listed_total;
 use object::Header;
 ghost use mathlib.Core.Path.{_≡_};
 ghost use mathlib.Core.List.{_++_};
-ghost use Prim.Native.Nat.{_≤_};
+ghost use Prim.Native.Nat.{_≤_, _%_, _^_};
 ghost use Rattle.arch.specs.Machine.{archOf};
 ghost use Rattle.layout.specs.Layout.{undefStart, mappedPages};
 ghost use Rattle.externs.specs.Bisect.{bisect};
 ghost use lib.ListN.{length};
 ghost use Rattle.survey.specs.Survey.{firstFailed, recordChecks, targetChecks, archBy, tallyBy, countsBy, ownMap, homes, answerBy, surveyOf};
-ghost use Rattle.survey.specs.Surveying.{Fits, answerFor, answerWith};
+ghost use Rattle.survey.specs.Surveying.{Fits, plannedBy, answerFor, answerWith};
 
 // The first of refusals 1 to 8 that applies, or 0.
-fn records_code(f: &[u8], h: Header) -> u64
+pub fn records_code(f: &[u8], h: Header) -> u64
     ensures { λ r. ⌜ r ≡ firstFailed (recordChecks (now (f .entry)) h) ⌝ }
 {
     if !checks::size_ok(f) {
@@ -54,7 +54,7 @@ fn records_code(f: &[u8], h: Header) -> u64
     0
 }
 
-fn machine_of(h: Header) -> Arch
+pub fn machine_of(h: Header) -> Arch
     ensures { λ r. ⌜ r ≡ archBy (archOf (h .machine)) ⌝ }
 {
     let m = Arch::of_machine(h.machine);
@@ -64,17 +64,16 @@ fn machine_of(h: Header) -> Arch
     }
 }
 
-fn undef_offset(f: &[u8], h: Header) -> u32
-    requires { ⌜ mappedPages (now f) h ≤ 4096 ⌝ }
-    ensures { λ r. ⌜ r ≡ undefStart (now (f .entry)) h ⌝ }
+// UNDEF's start and the mapped pages in 32 bits, in which those of an image of at most 4,096 pages fit.
+pub fn undef_offset(f: &[u8], h: Header) -> u32
+    ensures { λ r. ⌜ r ≡ undefStart (now (f .entry)) h % 2 ^ 32 ⌝ }
 {
     let at = layout::undef_start(f, h) % 0x100000000;
     at as u32
 }
 
-fn page_total(f: &[u8], h: Header) -> u32
-    requires { ⌜ mappedPages (now f) h ≤ 4096 ⌝ }
-    ensures { λ r. ⌜ r ≡ mappedPages (now (f .entry)) h ⌝ }
+pub fn page_total(f: &[u8], h: Header) -> u32
+    ensures { λ r. ⌜ r ≡ mappedPages (now (f .entry)) h % 2 ^ 32 ⌝ }
 {
     let pages = layout::mapped_pages(f, h) % 0x100000000;
     pages as u32
@@ -136,6 +135,17 @@ fn survey_targets(f: &[u8], h: Header, map: &[u8], homes: &[u32], set: &[u32]) -
 {
     let t = tally_by(f, h, map, homes, set);
     verdict(t, counts_by(f, h, map, homes, set.len(), t))
+}
+
+// The same for any lists, behind refusal 8.
+pub fn survey_planned(f: &[u8], h: Header, map: &[u8], homes: &[u32], set: &[u32]) -> Survey
+    ensures { λ r. ⌜ r ≡ plannedBy (now (f .entry)) h (now (map .entry)) (now (homes .entry)) (now (set .entry)) ⌝ }
+{
+    if checks::pages_ok(f, h) {
+        survey_targets(f, h, map, homes, set)
+    } else {
+        Survey::Refused(refusal::PAGES)
+    }
 }
 
 // Refusal 9, and what follows.

@@ -1,4 +1,5 @@
 use borrow.Author.Needs.{needs}
+use Rattle.survey.proofs.Laws.{tally-fits}
 use Rattle.survey.proofs.tally_by.Statement.{statement}
 use Rattle.survey.proofs.tally_by.Tie as tie
 
@@ -6,8 +7,8 @@ pub tally-by-spec : {M : Type 1} → statement M
 tally-by-spec =
     tie.close
     (tie.spec
-    (λ c. search needs)
-    (λ c. search needs)
-    (λ c. search needs)
-    (λ c. search needs)
-    (λ c. cc))
+    (λ c. search (needs, tally-fits))
+    (λ c. search (needs, tally-fits))
+    (λ c. search (needs, tally-fits))
+    (λ c. search (needs, tally-fits))
+    (λ c. search (needs, tally-fits)))

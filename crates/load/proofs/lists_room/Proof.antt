@@ -1,0 +1,13 @@
+use borrow.Author.Needs.{needs}
+use Rattle.load.proofs.Laws.{rooms}
+use Rattle.load.proofs.lists_room.Statement.{statement}
+use Rattle.load.proofs.lists_room.Tie as tie
+
+pub lists-room-spec : {M : Type 1} → statement M
+lists-room-spec =
+    tie.close
+    (tie.spec
+    (λ c. search (needs, rooms))
+    (λ c. search (needs, rooms))
+    (λ c. search (needs, rooms))
+    (λ c. search (needs, rooms)))
