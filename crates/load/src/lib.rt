@@ -1,6 +1,6 @@
-// Load: tables, marks and image into lent storage at a base, or a refusal that changes nothing. So far its definitions, checks 12 and 13, and the
-// writing of everything into buffers that have room; the chain from refusal 1 to 11 in front of them is not built yet.
+// Load: tables, marks and image into lent storage at a base, or a refusal that changes nothing.
 use arch::Arch;
+use externs::Names;
 use object::Header;
 use survey::Counts;
 use survey::Survey;
@@ -10,8 +10,10 @@ ghost use lib.ListN.{length};
 ghost use Rattle.externs.specs.Bisect.{bisect};
 ghost use Rattle.layout.specs.Layout.{undefStart, mappedPages, startsTo};
 ghost use Rattle.layout.specs.Home.{recordsTo};
-ghost use Rattle.load.specs.Load.{baseOk, layoutRoom, listsRoom, roomFor, storedBy, LoadIs};
-ghost use Rattle.load.specs.Loading.{LayoutIs, NamesAre, Limits, Planned, storage, roomCode};
+ghost use Rattle.survey.specs.Survey.{ownMap};
+ghost use Rattle.survey.specs.Surveying.{Fits};
+ghost use Rattle.load.specs.Load.{baseOk, layoutRoom, listsRoom, roomFor, storedBy, LoadIs, Loads};
+ghost use Rattle.load.specs.Loading.{LayoutIs, NamesAre, Limits, Planned, storage, roomCode, homesOf, plannedCounts, plannedCode, LoadsWith, LoadsAt};
 
 // The bytes of each lent buffer.
 struct Lengths {
@@ -329,5 +331,218 @@ fn load_room(
         Survey::Accepted(c)
     } else {
         Survey::Refused(refusal::STORAGE)
+    }
+}
+
+// The targets, the places, then 13.
+fn load_planned(
+    f: &[u8],
+    h: Header,
+    base: u32,
+    map: &[u8],
+    homes: &[u32],
+    set: &[u32],
+    image: &mut [u8],
+    marks: &mut [u8],
+    sections: &mut [u8],
+    symbols: &mut [u8],
+    externs: &mut [u8],
+    fixups: &mut [u8],
+    skips: &mut [u8],
+) -> Survey
+    requires { ⌜ Limits (now f) h (now set) ⌝ }
+    ensures { λ r. ⌜ LoadIs (plannedCode (now (f .entry)) h (now (map .entry)) (now (homes .entry)) (now (set .entry)) (storage (now (image .entry)) (now (marks .entry)) (now (sections .entry)) (now (symbols .entry)) (now (externs .entry)) (now (fixups .entry)) (now (skips .entry)))) (plannedCounts (now (f .entry)) h (now (map .entry)) (now (homes .entry)) (now (set .entry))) (storedBy (now (f .entry)) h base (now (map .entry)) (now (homes .entry)) (now (set .entry)) (bisect (now (f .entry)) h (now (set .entry))) (storage (now (image .entry)) (now (marks .entry)) (now (sections .entry)) (now (symbols .entry)) (now (externs .entry)) (now (fixups .entry)) (now (skips .entry)))) (storage (now (image .entry)) (now (marks .entry)) (now (sections .entry)) (now (symbols .entry)) (now (externs .entry)) (now (fixups .entry)) (now (skips .entry))) (storage (now (image .exit)) (now (marks .exit)) (now (sections .exit)) (now (symbols .exit)) (now (externs .exit)) (now (fixups .exit)) (now (skips .exit))) r ⌝ }
+{
+    match survey::survey_planned(f, h, map, homes, set) {
+        Survey::Refused(n) => Survey::Refused(n),
+        Survey::Accepted(c) => load_room(
+            f,
+            h,
+            base,
+            map,
+            homes,
+            set,
+            c,
+            image,
+            marks,
+            sections,
+            symbols,
+            externs,
+            fixups,
+            skips,
+        ),
+    }
+}
+
+// The names without a section, collected once.
+fn load_externs(
+    f: &[u8],
+    h: Header,
+    base: u32,
+    map: &[u8],
+    homes: &[u32],
+    image: &mut [u8],
+    marks: &mut [u8],
+    sections: &mut [u8],
+    symbols: &mut [u8],
+    externs: &mut [u8],
+    fixups: &mut [u8],
+    skips: &mut [u8],
+) -> Survey
+    requires { ⌜ Fits (now f) h ⌝ }
+    ensures { λ r. ⌜ LoadsWith (now (f .entry)) h base (now (map .entry)) (now (homes .entry)) (storage (now (image .entry)) (now (marks .entry)) (now (sections .entry)) (now (symbols .entry)) (now (externs .entry)) (now (fixups .entry)) (now (skips .entry))) (storage (now (image .exit)) (now (marks .exit)) (now (sections .exit)) (now (symbols .exit)) (now (externs .exit)) (now (fixups .exit)) (now (skips .exit))) r ⌝ }
+{
+    let mut set = [0u32; 1025];
+    match externs::collect(f, h, map, &mut set) {
+        Names::TooMany => Survey::Refused(refusal::EXTERNS),
+        Names::Count(n) => load_planned(
+            f,
+            h,
+            base,
+            map,
+            homes,
+            le::words(&set, n),
+            image,
+            marks,
+            sections,
+            symbols,
+            externs,
+            fixups,
+            skips,
+        ),
+    }
+}
+
+// The homes of the sections, filled once.
+fn load_homes(
+    f: &[u8],
+    h: Header,
+    base: u32,
+    map: &[u8],
+    image: &mut [u8],
+    marks: &mut [u8],
+    sections: &mut [u8],
+    symbols: &mut [u8],
+    externs: &mut [u8],
+    fixups: &mut [u8],
+    skips: &mut [u8],
+) -> Survey
+    requires { ⌜ Fits (now f) h ⌝ }
+    ensures { λ r. ⌜ LoadsWith (now (f .entry)) h base (now (map .entry)) (homesOf (now (f .entry)) h) (storage (now (image .entry)) (now (marks .entry)) (now (sections .entry)) (now (symbols .entry)) (now (externs .entry)) (now (fixups .entry)) (now (skips .entry))) (storage (now (image .exit)) (now (marks .exit)) (now (sections .exit)) (now (symbols .exit)) (now (externs .exit)) (now (fixups .exit)) (now (skips .exit))) r ⌝ }
+{
+    let mut homes = [0u32; 256];
+    layout::fill_homes(f, h, &mut homes);
+    load_externs(
+        f,
+        h,
+        base,
+        map,
+        le::words(&homes, h.sections as usize),
+        image,
+        marks,
+        sections,
+        symbols,
+        externs,
+        fixups,
+        skips,
+    )
+}
+
+// The map of own records, filled once.
+fn load_records(
+    f: &[u8],
+    h: Header,
+    base: u32,
+    image: &mut [u8],
+    marks: &mut [u8],
+    sections: &mut [u8],
+    symbols: &mut [u8],
+    externs: &mut [u8],
+    fixups: &mut [u8],
+    skips: &mut [u8],
+) -> Survey
+    requires { ⌜ Fits (now f) h ⌝ }
+    ensures { λ r. ⌜ LoadsWith (now (f .entry)) h base (ownMap (now (f .entry)) h) (homesOf (now (f .entry)) h) (storage (now (image .entry)) (now (marks .entry)) (now (sections .entry)) (now (symbols .entry)) (now (externs .entry)) (now (fixups .entry)) (now (skips .entry))) (storage (now (image .exit)) (now (marks .exit)) (now (sections .exit)) (now (symbols .exit)) (now (externs .exit)) (now (fixups .exit)) (now (skips .exit))) r ⌝ }
+{
+    let mut map = [0u8; 16384];
+    object::fill_primaries(f, h, &mut map);
+    load_homes(
+        f,
+        h,
+        base,
+        le::part(&map, 0, h.symbols as usize),
+        image,
+        marks,
+        sections,
+        symbols,
+        externs,
+        fixups,
+        skips,
+    )
+}
+
+// From refusal 1 on.
+fn load_at(
+    f: &[u8],
+    base: u32,
+    image: &mut [u8],
+    marks: &mut [u8],
+    sections: &mut [u8],
+    symbols: &mut [u8],
+    externs: &mut [u8],
+    fixups: &mut [u8],
+    skips: &mut [u8],
+) -> Survey
+    ensures { λ r. ⌜ LoadsAt (now (f .entry)) base (storage (now (image .entry)) (now (marks .entry)) (now (sections .entry)) (now (symbols .entry)) (now (externs .entry)) (now (fixups .entry)) (now (skips .entry))) (storage (now (image .exit)) (now (marks .exit)) (now (sections .exit)) (now (symbols .exit)) (now (externs .exit)) (now (fixups .exit)) (now (skips .exit))) r ⌝ }
+{
+    let h = object::read_header(f);
+    let code = survey::records_code(f, h);
+    if code == 0 {
+        load_records(
+            f,
+            h,
+            base,
+            image,
+            marks,
+            sections,
+            symbols,
+            externs,
+            fixups,
+            skips,
+        )
+    } else {
+        Survey::Refused(code)
+    }
+}
+
+// Everything that survey counts, at a base, into lent storage; or a refusal, and no byte has changed.
+pub fn load(
+    f: &[u8],
+    base: u64,
+    image: &mut [u8],
+    marks: &mut [u8],
+    sections: &mut [u8],
+    symbols: &mut [u8],
+    externs: &mut [u8],
+    fixups: &mut [u8],
+    skips: &mut [u8],
+) -> Survey
+    ensures { λ r. ⌜ Loads (now (f .entry)) base (storage (now (image .entry)) (now (marks .entry)) (now (sections .entry)) (now (symbols .entry)) (now (externs .entry)) (now (fixups .entry)) (now (skips .entry))) (storage (now (image .exit)) (now (marks .exit)) (now (sections .exit)) (now (symbols .exit)) (now (externs .exit)) (now (fixups .exit)) (now (skips .exit))) r ⌝ }
+{
+    if base_ok(base) {
+        let low = (base % 0x100000000) as u32;
+        load_at(
+            f,
+            low,
+            image,
+            marks,
+            sections,
+            symbols,
+            externs,
+            fixups,
+            skips,
+        )
+    } else {
+        Survey::Refused(refusal::BASE)
     }
 }

@@ -16,5 +16,5 @@ load-room-spec =
     (λ c. search (needs, room-yes, room-no))
     (λ c. search (needs, room-yes, room-no))
     (λ c. search (needs, room-yes, room-no))
-    (λ c. search (needs, room-yes, room-no))
-    (λ c. search (needs, room-yes, room-no)))
+    (λ c. search (needs, room-yes))
+    (λ c. search (needs, room-no)))
