@@ -6,3 +6,7 @@ pub mod Tallying
 pub mod Lists
 pub mod TallyLaws
 pub mod OutcomeLaws
+pub mod Signed
+pub mod ValueLaws
+pub mod ListLaws
+pub mod TargetLaws

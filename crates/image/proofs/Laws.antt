@@ -1,22 +1,24 @@
 -- The ways through the code. Assumes nothing.
-use mathlib.Core.Path.{_≡_, refl, sym, ap, _∙_}
+use mathlib.Core.Path.{_≡_, refl, ap, _∙_}
 use mathlib.Core.Bool.{Bool, true, false}
-use mathlib.Core.List.{List, [], _∷_, _++_}
+use mathlib.Core.List.{List}
 use Prim.Native.Nat.{ℕ, zero, suc, _+_, _-_, _*_, _/_, _%_, _^_, _≤_, _<_, min}
 use native.Mathlib.Omega.{arith}
 use native.Mathlib.Numerals.{add-one}
 use lib.Dec.{lit<}
 use native.Mathlib.Nat.{one-mul}
-use lib.ListN.{getD, length, length-append}
+use lib.ListN.{getD, length}
 use lib.Pow.{shl-exact}
 use mathlib.Core.Logic.{⊎-elim}
 use Rattle.util.specs.Pick.{pick, yes-no}
-use Rattle.le.specs.Le.{le, splice, part, splice-next, length-splice, length-le}
+use Rattle.le.specs.Le.{le, splice, splice-next}
 use Rattle.object.specs.declared.Header.{Header}
 use Rattle.object.specs.Format.{rawPointer, rawSize}
 use Rattle.object.specs.Section.{loaded, uninitialized, fileStart, fileEnd}
 use Rattle.image.specs.Laid.{sectionBytes, sectionStep, sectionsLaid, slotStep, slotsLaid}
 use Rattle.image.specs.MarkWords.{markWord, markBytes, markCount}
+use Rattle.image.specs.LaidLaws.{length-step, length-sections, length-slots}
+use Rattle.image.specs.MarkLaws.{length-marks}
 
 -- ---- sections
 module _ (f : List ℕ) (h : Header) (starts image : List ℕ) where
@@ -40,21 +42,11 @@ module _ (f : List ℕ) (h : Header) (starts image : List ℕ) where
   sections-end i n m b e a c q = let z : i ≡ m = omega arith in cc
 
   -- no byte more or less
-  step-long : (i : ℕ) → length (sectionStep f h starts image i) ≡ length image
-  unfolding sectionStep pick
-  step-long i = ⊎-elim (λ t. rw t (length-splice image (getD starts i 0) (sectionBytes f h i))) (λ t. rw t) (yes-no (loaded f h i))
-
   pub step-same : (i : ℕ) (b : List ℕ) → b ≡ sectionStep f h starts image i → length b ≡ length image
-  step-same i b e = rw e (step-long i)
-
-module _ (f : List ℕ) (h : Header) (starts image : List ℕ) where
-  all-long : (n : ℕ) → length (sectionsLaid f h starts image n) ≡ length image
-  unfolding sectionsLaid
-  all-long zero = refl
-  all-long (suc n) = step-long f h starts (sectionsLaid f h starts image n) n ∙ all-long n
+  step-same i b e = rw e (length-step f h starts image i)
 
   pub sections-same : (n : ℕ) (b : List ℕ) → b ≡ sectionsLaid f h starts image n → length b ≡ length image
-  sections-same n b e = rw e (all-long n)
+  sections-same n b e = rw e (length-sections f h starts image n)
 
 pub range-up : (f : List ℕ) (h : Header) (i a b : ℕ) → a ≡ fileStart f h i → b ≡ fileEnd f h i → a ≤ b
 unfolding fileStart fileEnd pick
@@ -86,13 +78,8 @@ module _ (base undef : ℕ) (image : List ℕ) where
   pub slots-end : (e n : ℕ) (b : List ℕ) → b ≡ slotsLaid base undef image e → e ≤ n → n ≤ e → b ≡ slotsLaid base undef image n
   slots-end e n b q a c = let z : e ≡ n = omega arith in cc
 
-  slots-long : (n : ℕ) → length (slotsLaid base undef image n) ≡ length image
-  unfolding slotsLaid slotStep
-  slots-long zero = refl
-  slots-long (suc n) = length-splice (slotsLaid base undef image n) (undef + 4 * n) (le 4 (base + undef + 4 * n)) ∙ slots-long n
-
   pub slots-same : (n : ℕ) (b : List ℕ) → b ≡ slotsLaid base undef image n → length b ≡ length image
-  slots-same n b e = rw e (slots-long n)
+  slots-same n b e = rw e (length-slots base undef image n)
 
 pub ruleset slots-loop = (slots-none, slots-again, slots-end, slots-same)
 
@@ -125,18 +112,13 @@ module _ (pages w : ℕ) where
 pub ruleset mark-ways = (word-none, word-full, word-part)
 
 module _ (pages : ℕ) where
-  length-marks : (n : ℕ) → length (markBytes pages n) ≡ 8 * n
-  unfolding markBytes
-  length-marks zero = refl
-  length-marks (suc n) = simp (length-append, length-marks n, length-le) (omega arith)
-
   pub marks-none : (l : List ℕ) → l ≡ splice l 0 (markBytes pages 0)
   unfolding splice markBytes
   marks-none l = refl
 
   pub marks-again : (l b c : List ℕ) (w : ℕ) → b ≡ splice l 0 (markBytes pages w) → c ≡ splice b (8 * w) (le 8 (markWord pages w)) → c ≡ splice l 0 (markBytes pages (w + 1))
   unfolding markBytes
-  marks-again l b c w e d = rw (d, e, splice-next l 0 (markBytes pages w) (le 8 (markWord pages w)) (8 * w) (let z = length-marks w in omega arith), add-one w)
+  marks-again l b c w e d = rw (d, e, splice-next l 0 (markBytes pages w) (le 8 (markWord pages w)) (8 * w) (let z = length-marks pages w in omega arith), add-one w)
 
   pub marks-end : (l b : List ℕ) (w n : ℕ) → b ≡ splice l 0 (markBytes pages w) → w ≤ n → n ≤ w → n ≡ (pages + 63) / 64 → b ≡ splice l 0 (markBytes pages (markCount pages))
   marks-end l b w n e a c q = let z : w ≡ markCount pages = omega arith in cc

@@ -1,2 +1,4 @@
 pub mod Laid
 pub mod MarkWords
+pub mod LaidLaws
+pub mod MarkLaws

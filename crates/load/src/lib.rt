@@ -1,5 +1,6 @@
 // Load: tables, marks and image into lent storage at a base, or a refusal that changes nothing.
 use arch::Arch;
+use arch::VA;
 use externs::Names;
 use object::Header;
 use survey::Counts;
@@ -351,7 +352,15 @@ fn load_planned(
     skips: &mut [u8],
 ) -> Survey
     requires { ⌜ Limits (now f) h (now set) ⌝ }
-    ensures { λ r. ⌜ LoadIs (plannedCode (now (f .entry)) h (now (map .entry)) (now (homes .entry)) (now (set .entry)) (storage (now (image .entry)) (now (marks .entry)) (now (sections .entry)) (now (symbols .entry)) (now (externs .entry)) (now (fixups .entry)) (now (skips .entry)))) (plannedCounts (now (f .entry)) h (now (map .entry)) (now (homes .entry)) (now (set .entry))) (storedBy (now (f .entry)) h base (now (map .entry)) (now (homes .entry)) (now (set .entry)) (bisect (now (f .entry)) h (now (set .entry))) (storage (now (image .entry)) (now (marks .entry)) (now (sections .entry)) (now (symbols .entry)) (now (externs .entry)) (now (fixups .entry)) (now (skips .entry)))) (storage (now (image .entry)) (now (marks .entry)) (now (sections .entry)) (now (symbols .entry)) (now (externs .entry)) (now (fixups .entry)) (now (skips .entry))) (storage (now (image .exit)) (now (marks .exit)) (now (sections .exit)) (now (symbols .exit)) (now (externs .exit)) (now (fixups .exit)) (now (skips .exit))) r ⌝ }
+    ensures { λ r.
+        ⌜ LoadIs (plannedCode (now (f .entry)) h (now (map .entry)) (now (homes .entry)) (now (set .entry))
+        (storage (now (image .entry)) (now (marks .entry)) (now (sections .entry)) (now (symbols .entry)) (now (externs .entry)) (now (fixups .entry)) (now (skips .entry))))
+        (plannedCounts (now (f .entry)) h (now (map .entry)) (now (homes .entry)) (now (set .entry)))
+        (storedBy (now (f .entry)) h base (now (map .entry)) (now (homes .entry)) (now (set .entry)) (bisect (now (f .entry)) h (now (set .entry)))
+        (storage (now (image .entry)) (now (marks .entry)) (now (sections .entry)) (now (symbols .entry)) (now (externs .entry)) (now (fixups .entry)) (now (skips .entry))))
+        (storage (now (image .entry)) (now (marks .entry)) (now (sections .entry)) (now (symbols .entry)) (now (externs .entry)) (now (fixups .entry)) (now (skips .entry)))
+        (storage (now (image .exit)) (now (marks .exit)) (now (sections .exit)) (now (symbols .exit)) (now (externs .exit)) (now (fixups .exit)) (now (skips .exit)))
+        r ⌝ }
 {
     match survey::survey_planned(f, h, map, homes, set) {
         Survey::Refused(n) => Survey::Refused(n),
@@ -390,7 +399,11 @@ fn load_externs(
     skips: &mut [u8],
 ) -> Survey
     requires { ⌜ Fits (now f) h ⌝ }
-    ensures { λ r. ⌜ LoadsWith (now (f .entry)) h base (now (map .entry)) (now (homes .entry)) (storage (now (image .entry)) (now (marks .entry)) (now (sections .entry)) (now (symbols .entry)) (now (externs .entry)) (now (fixups .entry)) (now (skips .entry))) (storage (now (image .exit)) (now (marks .exit)) (now (sections .exit)) (now (symbols .exit)) (now (externs .exit)) (now (fixups .exit)) (now (skips .exit))) r ⌝ }
+    ensures { λ r.
+        ⌜ LoadsWith (now (f .entry)) h base (now (map .entry)) (now (homes .entry))
+        (storage (now (image .entry)) (now (marks .entry)) (now (sections .entry)) (now (symbols .entry)) (now (externs .entry)) (now (fixups .entry)) (now (skips .entry)))
+        (storage (now (image .exit)) (now (marks .exit)) (now (sections .exit)) (now (symbols .exit)) (now (externs .exit)) (now (fixups .exit)) (now (skips .exit)))
+        r ⌝ }
 {
     let mut set = [0u32; 1025];
     match externs::collect(f, h, map, &mut set) {
@@ -428,7 +441,11 @@ fn load_homes(
     skips: &mut [u8],
 ) -> Survey
     requires { ⌜ Fits (now f) h ⌝ }
-    ensures { λ r. ⌜ LoadsWith (now (f .entry)) h base (now (map .entry)) (homesOf (now (f .entry)) h) (storage (now (image .entry)) (now (marks .entry)) (now (sections .entry)) (now (symbols .entry)) (now (externs .entry)) (now (fixups .entry)) (now (skips .entry))) (storage (now (image .exit)) (now (marks .exit)) (now (sections .exit)) (now (symbols .exit)) (now (externs .exit)) (now (fixups .exit)) (now (skips .exit))) r ⌝ }
+    ensures { λ r.
+        ⌜ LoadsWith (now (f .entry)) h base (now (map .entry)) (homesOf (now (f .entry)) h)
+        (storage (now (image .entry)) (now (marks .entry)) (now (sections .entry)) (now (symbols .entry)) (now (externs .entry)) (now (fixups .entry)) (now (skips .entry)))
+        (storage (now (image .exit)) (now (marks .exit)) (now (sections .exit)) (now (symbols .exit)) (now (externs .exit)) (now (fixups .exit)) (now (skips .exit)))
+        r ⌝ }
 {
     let mut homes = [0u32; 256];
     layout::fill_homes(f, h, &mut homes);
@@ -462,7 +479,11 @@ fn load_records(
     skips: &mut [u8],
 ) -> Survey
     requires { ⌜ Fits (now f) h ⌝ }
-    ensures { λ r. ⌜ LoadsWith (now (f .entry)) h base (ownMap (now (f .entry)) h) (homesOf (now (f .entry)) h) (storage (now (image .entry)) (now (marks .entry)) (now (sections .entry)) (now (symbols .entry)) (now (externs .entry)) (now (fixups .entry)) (now (skips .entry))) (storage (now (image .exit)) (now (marks .exit)) (now (sections .exit)) (now (symbols .exit)) (now (externs .exit)) (now (fixups .exit)) (now (skips .exit))) r ⌝ }
+    ensures { λ r.
+        ⌜ LoadsWith (now (f .entry)) h base (ownMap (now (f .entry)) h) (homesOf (now (f .entry)) h)
+        (storage (now (image .entry)) (now (marks .entry)) (now (sections .entry)) (now (symbols .entry)) (now (externs .entry)) (now (fixups .entry)) (now (skips .entry)))
+        (storage (now (image .exit)) (now (marks .exit)) (now (sections .exit)) (now (symbols .exit)) (now (externs .exit)) (now (fixups .exit)) (now (skips .exit)))
+        r ⌝ }
 {
     let mut map = [0u8; 16384];
     object::fill_primaries(f, h, &mut map);
@@ -493,7 +514,11 @@ fn load_at(
     fixups: &mut [u8],
     skips: &mut [u8],
 ) -> Survey
-    ensures { λ r. ⌜ LoadsAt (now (f .entry)) base (storage (now (image .entry)) (now (marks .entry)) (now (sections .entry)) (now (symbols .entry)) (now (externs .entry)) (now (fixups .entry)) (now (skips .entry))) (storage (now (image .exit)) (now (marks .exit)) (now (sections .exit)) (now (symbols .exit)) (now (externs .exit)) (now (fixups .exit)) (now (skips .exit))) r ⌝ }
+    ensures { λ r.
+        ⌜ LoadsAt (now (f .entry)) base
+        (storage (now (image .entry)) (now (marks .entry)) (now (sections .entry)) (now (symbols .entry)) (now (externs .entry)) (now (fixups .entry)) (now (skips .entry)))
+        (storage (now (image .exit)) (now (marks .exit)) (now (sections .exit)) (now (symbols .exit)) (now (externs .exit)) (now (fixups .exit)) (now (skips .exit)))
+        r ⌝ }
 {
     let h = object::read_header(f);
     let code = survey::records_code(f, h);
@@ -518,7 +543,7 @@ fn load_at(
 // Everything that survey counts, at a base, into lent storage; or a refusal, and no byte has changed.
 pub fn load(
     f: &[u8],
-    base: u64,
+    base: VA,
     image: &mut [u8],
     marks: &mut [u8],
     sections: &mut [u8],
@@ -527,10 +552,14 @@ pub fn load(
     fixups: &mut [u8],
     skips: &mut [u8],
 ) -> Survey
-    ensures { λ r. ⌜ Loads (now (f .entry)) base (storage (now (image .entry)) (now (marks .entry)) (now (sections .entry)) (now (symbols .entry)) (now (externs .entry)) (now (fixups .entry)) (now (skips .entry))) (storage (now (image .exit)) (now (marks .exit)) (now (sections .exit)) (now (symbols .exit)) (now (externs .exit)) (now (fixups .exit)) (now (skips .exit))) r ⌝ }
+    ensures { λ r.
+        ⌜ Loads (now (f .entry)) (base .0)
+        (storage (now (image .entry)) (now (marks .entry)) (now (sections .entry)) (now (symbols .entry)) (now (externs .entry)) (now (fixups .entry)) (now (skips .entry)))
+        (storage (now (image .exit)) (now (marks .exit)) (now (sections .exit)) (now (symbols .exit)) (now (externs .exit)) (now (fixups .exit)) (now (skips .exit)))
+        r ⌝ }
 {
-    if base_ok(base) {
-        let low = (base % 0x100000000) as u32;
+    if base_ok(base.0) {
+        let low = (base.0 % 0x100000000) as u32;
         load_at(
             f,
             low,

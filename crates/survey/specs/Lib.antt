@@ -3,3 +3,4 @@ pub mod Survey
 pub mod Surveying
 pub mod SurveyLaws
 pub mod Acceptance
+pub mod Fixups

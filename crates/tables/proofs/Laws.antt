@@ -1,15 +1,15 @@
 -- The loops of the tables. Assumes nothing.
 use mathlib.Core.Path.{_≡_, refl, sym, ap, _∙_}
 use mathlib.Core.Bool.{Bool, true, false}
-use mathlib.Core.List.{List, [], _∷_, _++_, append-assoc, append-nil}
-use Prim.Native.Nat.{ℕ, zero, suc, _+_, _-_, _*_, _≤_, _<_}
+use mathlib.Core.List.{List, [], _∷_, _++_, append-nil}
+use Prim.Native.Nat.{ℕ, suc, _+_, _-_, _*_, _≤_, _<_}
 use native.Mathlib.Omega.{arith}
 use native.Mathlib.Numerals.{add-one}
 use lib.ListN.{getD, length, take, length-append}
 use lib.Seq.{take-suc, take-all, length-take-le}
 use mathlib.Core.Logic.{⊎-elim}
 use Rattle.util.specs.Pick.{pick, yes-no}
-use Rattle.le.specs.Le.{le, splice, splice-next, splice-long, length-le}
+use Rattle.le.specs.Le.{le, splice, splice-next, splice-long}
 use Rattle.object.specs.declared.Header.{Header}
 use Rattle.object.specs.Section.{loaded, rangeLength, fileStart, fileEnd, permissions}
 use Rattle.names.specs.Name.{sectionName, symbolName}
@@ -23,6 +23,8 @@ use Rattle.tables.specs.Words.{wordBytes, nameStart, nameLength, Stepped
 use Rattle.tables.specs.Sections.{sectionWords, sectionRecords, undefWords, sectionTable}
 use Rattle.tables.specs.Symbols.{symbolWords, symbolRecords, symbolTable}
 use Rattle.tables.specs.Externs.{externWords, externTable}
+use Rattle.tables.specs.TableLaws.{words-append, length-words, length-externs}
+use Rattle.tables.specs.Results.{progressWords}
 
 -- ---- names
 module _ (name : Name) where
@@ -41,16 +43,6 @@ module _ (name : Name) where
 pub ruleset name-ways = (start-good, start-bad, length-good, length-bad)
 
 -- ---- words
-words-append : (xs ys : List ℕ) → wordBytes (xs ++ ys) ≡ wordBytes xs ++ wordBytes ys
-unfolding wordBytes
-words-append [] ys = refl
-words-append (x ∷ xs) ys = ap (λ (l : List ℕ). le 8 x ++ l) (words-append xs ys) ∙ sym (append-assoc (le 8 x) (wordBytes xs) (wordBytes ys))
-
-pub length-words : (ws : List ℕ) → length (wordBytes ws) ≡ 8 * length ws
-unfolding wordBytes
-length-words [] = refl
-length-words (w ∷ ws) = simp (length-append, length-le, length-words ws) (omega arith)
-
 -- records one behind another: what is written behind T joins it
 pub joined : (l b c T R : List ℕ) (k : ℕ) → b ≡ splice l 0 T → k ≡ length T → c ≡ splice b k R → c ≡ splice l 0 (T ++ R)
 joined l b c T R k e q d = rw (d, e) (splice-next l 0 T R k (omega arith))
@@ -77,6 +69,10 @@ module _ (ws : List ℕ) where
   words-end l b at i e h = e ∙ ap (λ (x : List ℕ). splice l at (wordBytes x)) (take-all i ws h)
 
 pub ruleset words-loop = (words-none, words-again, words-end)
+
+-- ---- results
+pub progress-put : (l b : List ℕ) (p w : ℕ) (done : Bool) → w ≡ pick done 1 0 → b ≡ splice l 0 (wordBytes (p ∷ w ∷ [])) → b ≡ splice l 0 (wordBytes (progressWords p done))
+progress-put l b p w done e d = cc
 
 more : (size n : ℕ) → size * (n + 1) ≡ size * n + size
 more size n = omega arith
@@ -204,12 +200,6 @@ unfolding externWords
 extern-put f h base undef set b c e k j ns nl name e1 e2 e3 e4 d = rw (← e1, ← e2, ← e3, ← e4) d
 
 module _ (f : List ℕ) (h : Header) (base undef : ℕ) (set : List ℕ) where
-  length-externs : (e : ℕ) → length (externTable f h base undef set e) ≡ 32 * e
-  unfolding externTable externWords
-  length-externs zero = refl
-  length-externs (suc e) =
-      length-append (externTable f h base undef set e) (wordBytes (externWords f h base undef set e)) ∙ (let a = length-externs e in let b = length-words (externWords f h base undef set e) in omega arith)
-
   pub externs-none : (l : List ℕ) → l ≡ splice l 0 (externTable f h base undef set 0)
   unfolding externTable splice
   externs-none l = refl
@@ -217,7 +207,7 @@ module _ (f : List ℕ) (h : Header) (base undef : ℕ) (set : List ℕ) where
   pub externs-again : (l b c : List ℕ) (e : ℕ) → b ≡ splice l 0 (externTable f h base undef set e) → c ≡ splice b (32 * e) (wordBytes (externWords f h base undef set e))
       → c ≡ splice l 0 (externTable f h base undef set (e + 1))
   unfolding externTable
-  externs-again l b c e p d = rw (add-one e) (joined l b c (externTable f h base undef set e) (wordBytes (externWords f h base undef set e)) (32 * e) p (sym (length-externs e)) d)
+  externs-again l b c e p d = rw (add-one e) (joined l b c (externTable f h base undef set e) (wordBytes (externWords f h base undef set e)) (32 * e) p (sym (length-externs f h base undef set e)) d)
 
   pub externs-end : (l b : List ℕ) (e n : ℕ) → b ≡ splice l 0 (externTable f h base undef set e) → e ≤ n → n ≤ e → b ≡ splice l 0 (externTable f h base undef set n)
   externs-end l b e n p a c = let z : e ≡ n = omega arith in cc

@@ -17,7 +17,7 @@ use Rattle.fixups.specs.Lists.{recordsTo, sectionsTo}
 use Rattle.tables.specs.declared.Places.{Places}
 use Rattle.tables.specs.Words.{wordBytes}
 use Rattle.tables.specs.Relocations.{fixWords, skipWords, fixBytes, skipBytes, fixBytesAt, skipBytesAt, Written, Near, Step, BothWritten}
-use Rattle.tables.proofs.Laws.{length-words}
+use Rattle.tables.specs.TableLaws.{length-words}
 
 -- ---- one record
 pub fix-put : (base : ℕ) (x : Fix) (b c : List ℕ) (k at v : ℕ) → at ≡ (base + x .place) % 2 ^ 64 → v ≡ valueOf base x → c ≡ splice b k (wordBytes (at ∷ x .bits ∷ v ∷ [])) → c ≡ splice b k (wordBytes (fixWords base x))

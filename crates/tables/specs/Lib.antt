@@ -3,3 +3,5 @@ pub mod Sections
 pub mod Symbols
 pub mod Externs
 pub mod Relocations
+pub mod Results
+pub mod TableLaws

@@ -18,5 +18,5 @@ load-spec =
     (λ c. search needs)
     (λ c. search needs)
     (λ c. search needs)
-    (λ c. base-yes _ _ _ _ (c .before .before .before .before .before .before .before .before .before .before .before .before .before .before .before .before .before .before .before .before .before .before .before .base-ok .ensures) _ _ (search needs) (c .before .before .before .before .before .before .before .before .before .before .before .before .before .before .load-at .ensures))
+    (λ c. base-yes _ _ _ _ (c .before .before .before .before .before .before .before .before .before .before .before .before .before .before .before .before .before .before .before .before .before .before .before .before .base-ok .ensures) _ _ (search needs) (c .before .before .before .before .before .before .before .before .before .before .before .before .before .before .load-at .ensures))
     (λ c. search (needs, based)))

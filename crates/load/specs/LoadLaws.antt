@@ -1,0 +1,214 @@
+-- What an accepted load says and leaves: the file is accepted, the base allowed, there was room; each buffer's counted part is its table, and what lies behind it is as it was.
+use mathlib.Core.Path.{_≡_, refl, sym, ap, subst, _∙_}
+use mathlib.Core.Bool.{Bool, true, false, _&&_}
+use mathlib.Core.List.{List, [], _∷_, _++_}
+use mathlib.Core.Logic.{⊎-elim}
+use Prim.Native.Nat.{ℕ, zero, suc, _+_, _*_, _≤_, _<_}
+use native.Mathlib.Omega.{arith}
+use lib.Dec.{eqb, leb}
+use lib.ListN.{length, getD}
+use borrow.Author.Tests.{leb-true, ne-eqb}
+use Rattle.util.specs.Pick.{pick, and-left, and-right}
+use Rattle.arch.specs.Page.{PAGE-SIZE}
+use Rattle.le.specs.Le.{splice, part, part-splice, splice-above}
+use Rattle.object.specs.declared.Header.{Header}
+use Rattle.object.specs.Format.{headerOf}
+use Rattle.object.specs.Section.{relocationCount}
+use Rattle.layout.specs.Layout.{undefStart, mappedPages, startsTo, tableRecords}
+use Rattle.layout.specs.Home.{recordsTo}
+use Rattle.externs.specs.Externs.{externs}
+use Rattle.fixups.specs.Tally.{isFixup, isSkipped, howMany, tallyOf}
+use Rattle.refusal.specs.Refusal.{BASE, STORAGE}
+use Rattle.survey.specs.declared.answer.Counts.{Counts}
+use Rattle.survey.specs.declared.answer.Survey.{Survey}
+use Rattle.survey.specs.declared.answer.Survey.the-variants.{Accepted, Refused}
+use Rattle.survey.specs.Listed.{listedTotal}
+use Rattle.survey.specs.Survey.{Check, check, firstFailed, externChecks, targetChecks, checks, counts, countsBy, tally, ownMap, homes, outcomes, answerBy, surveyOf}
+use Rattle.survey.specs.SurveyLaws.{check-holds, checks-hold, Ordered, ordered, ordered-rest, records-rest, tells-accepted, tells-refused}
+use Rattle.tables.specs.Sections.{sectionTable}
+use Rattle.tables.specs.Symbols.{symbolTable}
+use Rattle.tables.specs.Externs.{externTable}
+use Rattle.tables.specs.Relocations.{fixTable, skipTable}
+use Rattle.tables.specs.TableLaws.{sections-fill, symbols-fill, length-externs, fixes-fill, skips-fill}
+use Rattle.image.specs.MarkWords.{markCount, markBytes}
+use Rattle.image.specs.MarkLaws.{length-marks}
+use Rattle.image.specs.LaidLaws.{laidImage, laid-past}
+use Rattle.load.specs.declared.Lengths.{Lengths}
+use Rattle.load.specs.Load.{Storage, lengthsOf, baseOk, layoutRoom, listsRoom, roomOk, storedBy, stored, loadChecks, LoadIs, Loads}
+
+-- ---- what the answer says
+pub record LoadAccepts (f : List ℕ) (base : ℕ) (s s′ : Storage) (c : Counts) : Type 0 where
+  pub accepted : surveyOf f ≡ Accepted c
+  pub allowed : baseOk base ≡ true
+  pub room : roomOk c s ≡ true
+  pub counted : counts f (headerOf f) ≡ c
+  pub names : length (externs f (headerOf f)) ≤ 1024
+  pub pages : mappedPages f (headerOf f) ≤ 4096
+  pub leaves : s′ ≡ stored f (headerOf f) base s
+
+module _ (f : List ℕ) (base : ℕ) (s s′ : Storage) (c : Counts) (loads : Loads f base s s′ (Accepted c)) where
+  abbrev h : Header
+  h = headerOf f
+
+  told : (firstFailed (loadChecks f h base s) ≡ 0) × (counts f h ≡ c)
+  told = tells-accepted (firstFailed (loadChecks f h base s)) (counts f h) c (sym (loads .says))
+
+  abbrev late : List Check
+  late = targetChecks (tally f h) ++ (check (roomOk (counts f h) s) STORAGE ∷ [])
+
+  records : firstFailed (checks f h ++ (check (roomOk (counts f h) s) STORAGE ∷ [])) ≡ 0
+  records = checks-hold (baseOk base) 11 (checks f h ++ (check (roomOk (counts f h) s) STORAGE ∷ [])) (told .0)
+
+  in-order : Ordered f h
+  in-order = ordered f h (externChecks (length (externs f h)) ++ late) records
+
+  rest : firstFailed (externChecks (length (externs f h)) ++ late) ≡ 0
+  rest = ordered-rest f h (externChecks (length (externs f h)) ++ late) records
+
+  targets : firstFailed late ≡ 0
+  targets = checks-hold _ _ _ rest
+
+  few-names : leb (length (externs f h)) 1024 ≡ true
+  few-names = check-holds _ _ _ rest
+
+  abbrev last : List Check
+  last = check (roomOk (counts f h) s) STORAGE ∷ []
+
+  none-refused : eqb (tally f h .refused) 0 ≡ true
+  none-refused = check-holds (eqb (tally f h .refused) 0) 9 (check (eqb (tally f h .outside) 0) 11 ∷ last) targets
+
+  inside : firstFailed (check (eqb (tally f h .outside) 0) 11 ∷ last) ≡ 0
+  inside = checks-hold (eqb (tally f h .refused) 0) 9 (check (eqb (tally f h .outside) 0) 11 ∷ last) targets
+
+  none-outside : eqb (tally f h .outside) 0 ≡ true
+  none-outside = check-holds (eqb (tally f h .outside) 0) 10 last inside
+
+  survey-accepts : surveyOf f ≡ Accepted c
+  unfolding answerBy firstFailed pick
+  survey-accepts =
+      let z : firstFailed (checks f h) ≡ 0 =
+      records-rest f h (externChecks (length (externs f h)) ++ targetChecks (tally f h)) in-order ∙ rw (few-names, none-refused, none-outside) in
+      rw z (ap Accepted (told .1))
+
+  pub load-accepts : LoadAccepts f base s s′ c
+  unfolding pick
+  load-accepts =
+      record {
+        accepted = survey-accepts;
+        allowed = check-holds (baseOk base) 11 (checks f h ++ (check (roomOk (counts f h) s) STORAGE ∷ [])) (told .0);
+        room = rw (← told .1) (check-holds (roomOk (counts f h) s) 12 [] (checks-hold (eqb (tally f h .outside) 0) 10 last inside));
+        counted = told .1;
+        names = leb-true (length (externs f h)) 1024 few-names;
+        pages = leb-true (mappedPages f h) 4096 (in-order .pages);
+        leaves = rw (told .0) at (loads .leaves);
+      }
+
+-- ---- a buffer that a table was written to: the table, and behind it what stood there
+pub record Keeps (table : List ℕ) (size : ℕ) (before after : List ℕ) : Type 0 where
+  pub long : length table ≡ size
+  pub room : size ≤ length before
+  pub counted : part after 0 size ≡ table
+  pub behind : (k : ℕ) → size ≤ k → getD after k 0 ≡ getD before k 0
+
+keeps : (table : List ℕ) (size : ℕ) (before after : List ℕ) → length table ≡ size → size ≤ length before → after ≡ splice before 0 table → Keeps table size before after
+keeps table size before after e r q =
+    record {
+      long = e;
+      room = r;
+      counted = rw (q, ← e) (part-splice before 0 table (omega arith));
+      behind = λ k l. rw q (splice-above before 0 table k (omega arith));
+    }
+
+-- ---- there was room for each
+pub record Rooms (c : Counts) (l : Lengths) : Type 0 where
+  pub image : PAGE-SIZE * c .pages ≤ l .image
+  pub marks : 8 * markCount (c .pages) ≤ l .marks
+  pub sections : 64 * c .sections ≤ l .sections
+  pub symbols : 48 * c .symbols ≤ l .symbols
+  pub externs : 32 * c .externs ≤ l .externs
+  pub fixups : 24 * c .fixups ≤ l .fixups
+  pub skips : 24 * c .skips ≤ l .skips
+
+pub rooms : (c : Counts) (l : Lengths) → layoutRoom c l && listsRoom c l ≡ true → Rooms c l
+unfolding layoutRoom listsRoom
+rooms c l e =
+    let a = and-left (layoutRoom c l) (listsRoom c l) e in
+    let b = and-right (layoutRoom c l) (listsRoom c l) e in
+    let a₂ = and-right (leb (PAGE-SIZE * c .pages) (l .image)) _ a in
+    let b₂ = and-right (leb (48 * c .symbols) (l .symbols)) _ b in
+    let b₃ = and-right (leb (32 * c .externs) (l .externs)) _ b₂ in
+    record {
+      image = leb-true _ _ (and-left (leb (PAGE-SIZE * c .pages) (l .image)) _ a);
+      marks = leb-true _ _ (and-left (leb (8 * markCount (c .pages)) (l .marks)) _ a₂);
+      sections = leb-true _ _ (and-right (leb (8 * markCount (c .pages)) (l .marks)) _ a₂);
+      symbols = leb-true _ _ (and-left (leb (48 * c .symbols) (l .symbols)) _ b);
+      externs = leb-true _ _ (and-left (leb (32 * c .externs) (l .externs)) _ b₂);
+      fixups = leb-true _ _ (and-left (leb (24 * c .fixups) (l .fixups)) _ b₃);
+      skips = leb-true _ _ (and-right (leb (24 * c .fixups) (l .fixups)) _ b₃);
+    }
+
+-- ---- what each buffer holds
+pub record LoadLeaves (f : List ℕ) (base : ℕ) (s s′ : Storage) (c : Counts) : Type 0 where
+  pub image : s′ .image ≡ laidImage f (headerOf f) base (length (externs f (headerOf f))) (s .image)
+  pub image-behind : (k : ℕ) → PAGE-SIZE * c .pages ≤ k → getD (s′ .image) k 0 ≡ getD (s .image) k 0
+  pub marks : Keeps (markBytes (c .pages) (markCount (c .pages))) (8 * markCount (c .pages)) (s .marks) (s′ .marks)
+  pub sections : Keeps (sectionTable f (headerOf f) base (startsTo f (headerOf f) (headerOf f .sections)) (undefStart f (headerOf f))) (64 * c .sections) (s .sections) (s′ .sections)
+  pub symbols : Keeps (symbolTable f (headerOf f) base (ownMap f (headerOf f)) (homes f (headerOf f)) (recordsTo f (headerOf f) (headerOf f .sections))) (48 * c .symbols) (s .symbols) (s′ .symbols)
+  pub externs : Keeps (externTable f (headerOf f) base (undefStart f (headerOf f)) (externs f (headerOf f)) (length (externs f (headerOf f)))) (32 * c .externs) (s .externs) (s′ .externs)
+  pub fixups : Keeps (fixTable base (outcomes f (headerOf f)) (relocationCount f (headerOf f)) (headerOf f .sections)) (24 * c .fixups) (s .fixups) (s′ .fixups)
+  pub skips : Keeps (skipTable (outcomes f (headerOf f)) (relocationCount f (headerOf f)) (headerOf f .sections)) (24 * c .skips) (s .skips) (s′ .skips)
+
+module _ (f : List ℕ) (base : ℕ) (s s′ : Storage) (c : Counts) (loads : Loads f base s s′ (Accepted c)) where
+  accepts : LoadAccepts f base s s′ c
+  accepts = load-accepts f base s s′ c loads
+
+  fits : Rooms c (lengthsOf s)
+  fits = rooms c (lengthsOf s) (accepts .room)
+
+  pub pages-counted : c .pages ≡ mappedPages f (headerOf f)
+  unfolding countsBy
+  pages-counted = ap (λ (k : Counts). k .pages) (sym (accepts .counted))
+
+  sections-are : c .sections ≡ tableRecords f (headerOf f)
+  unfolding countsBy
+  sections-are = ap (λ (k : Counts). k .sections) (sym (accepts .counted))
+
+  symbols-are : c .symbols ≡ listedTotal f (headerOf f) (ownMap f (headerOf f)) (homes f (headerOf f))
+  unfolding countsBy
+  symbols-are = ap (λ (k : Counts). k .symbols) (sym (accepts .counted))
+
+  externs-are : c .externs ≡ length (externs f (headerOf f))
+  unfolding countsBy
+  externs-are = ap (λ (k : Counts). k .externs) (sym (accepts .counted))
+
+  fixups-are : c .fixups ≡ howMany isFixup (outcomes f (headerOf f)) (relocationCount f (headerOf f)) (headerOf f .sections)
+  unfolding countsBy tallyOf
+  fixups-are = ap (λ (k : Counts). k .fixups) (sym (accepts .counted))
+
+  skips-are : c .skips ≡ howMany isSkipped (outcomes f (headerOf f)) (relocationCount f (headerOf f)) (headerOf f .sections)
+  unfolding countsBy tallyOf
+  skips-are = ap (λ (k : Counts). k .skips) (sym (accepts .counted))
+
+  pub load-leaves : LoadLeaves f base s s′ c
+  unfolding storedBy
+  load-leaves =
+      let l = accepts .leaves in
+      let i : s′ .image ≡ laidImage f (headerOf f) base (length (externs f (headerOf f))) (s .image) = ap (λ (z : Storage). z .image) l in
+      record {
+        image = i;
+        image-behind =
+            λ k q. rw i (laid-past f (headerOf f) base (length (externs f (headerOf f))) (s .image) (accepts .pages) (accepts .names) (rw (← pages-counted) (fits .image)) k (rw (← pages-counted) q));
+        marks = keeps _ _ (s .marks) (s′ .marks) (length-marks (c .pages) (markCount (c .pages))) (fits .marks) (rw pages-counted (ap (λ (z : Storage). z .marks) l));
+        sections = keeps _ _ (s .sections) (s′ .sections) (rw sections-are (sections-fill f (headerOf f) base _ _)) (fits .sections) (ap (λ (z : Storage). z .sections) l);
+        symbols = keeps _ _ (s .symbols) (s′ .symbols) (rw symbols-are (symbols-fill f (headerOf f) base _ _ _)) (fits .symbols) (ap (λ (z : Storage). z .symbols) l);
+        externs = keeps _ _ (s .externs) (s′ .externs) (rw externs-are (length-externs f (headerOf f) base _ _ _)) (fits .externs) (ap (λ (z : Storage). z .externs) l);
+        fixups = keeps _ _ (s .fixups) (s′ .fixups) (rw fixups-are (fixes-fill base _ _ _)) (fits .fixups) (ap (λ (z : Storage). z .fixups) l);
+        skips = keeps _ _ (s .skips) (s′ .skips) (rw skips-are (skips-fill _ _ _)) (fits .skips) (ap (λ (z : Storage). z .skips) l);
+      }
+
+-- ---- a refusal changes nothing
+pub load-refused : (f : List ℕ) (base : ℕ) (s s′ : Storage) (n : ℕ) → Loads f base s s′ (Refused n) → s′ ≡ s
+unfolding pick
+load-refused f base s s′ n loads =
+    let t = tells-refused (firstFailed (loadChecks f (headerOf f) base s)) (counts f (headerOf f)) n (sym (loads .says)) in
+    rw (ne-eqb (firstFailed (loadChecks f (headerOf f) base s)) 0 (t .1)) at (loads .leaves)

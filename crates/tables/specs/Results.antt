@@ -1,0 +1,30 @@
+-- What survey, load and patch hand back, as words at the front of a lent buffer (docs/HOST.md).
+use mathlib.Core.Bool.{Bool}
+use mathlib.Core.List.{List, [], _∷_}
+use Prim.Native.Nat.{ℕ}
+use Rattle.util.specs.Pick.{pick}
+use Rattle.survey.specs.declared.answer.Counts.{Counts}
+
+abbrev pub COUNTS-BYTES : ℕ
+COUNTS-BYTES = 80
+
+abbrev pub countsWords : Counts → List ℕ
+countsWords c =
+    c .pages
+    ∷ c .sections
+    ∷ c .symbols
+    ∷ c .externs
+    ∷ c .fixups
+    ∷ c .skips
+    ∷ c .passed
+    ∷ c .«file_sections»
+    ∷ c .«symbol_records»
+    ∷ c .relocations
+    ∷ []
+
+-- where a portion of fixups ended, and 1 if the list ends there, else 0
+abbrev pub PROGRESS-BYTES : ℕ
+PROGRESS-BYTES = 16
+
+abbrev pub progressWords : ℕ → Bool → List ℕ
+progressWords position done = position ∷ pick done 1 0 ∷ []
