@@ -36,7 +36,8 @@ fn reached(base: u64, a: u64, n: u64) -> bool
     }
 }
 
-fn span_at(size: u64, marks: &[u8], base: u64, a: u64, n: u64) -> bool
+// All of n bytes from the address `a` are mapped at the base.
+pub fn span_at(size: u64, marks: &[u8], base: u64, a: u64, n: u64) -> bool
     ensures { λ r. ⌜ r ≡ spanAt size (now (marks .entry)) base a n ⌝ }
 {
     if reached(base, a, n) {

@@ -1,0 +1,27 @@
+-- The counted parts of what an accepted load leaves, which later calls are given (01, "Load"): by the file and the base alone.
+use mathlib.Core.List.{List}
+use Prim.Native.Nat.{ℕ, _*_}
+use lib.ListN.{length, replicate}
+use Rattle.arch.specs.Page.{PAGE-SIZE}
+use Rattle.object.specs.Format.{headerOf}
+use Rattle.object.specs.Section.{relocationCount}
+use Rattle.layout.specs.Layout.{mappedPages, undefStart, startsTo}
+use Rattle.externs.specs.Externs.{externs}
+use Rattle.survey.specs.Survey.{outcomes}
+use Rattle.tables.specs.Relocations.{fixTable}
+use Rattle.image.specs.Laid.{laid}
+use Rattle.image.specs.MarkWords.{markCount, markBytes}
+
+abbrev pub pagesOf : List ℕ → ℕ
+pagesOf f = mappedPages f (headerOf f)
+
+abbrev pub imageOf : List ℕ → ℕ → List ℕ
+imageOf f base =
+    laid f (headerOf f) (startsTo f (headerOf f) (headerOf f .sections)) (pagesOf f) base (undefStart f (headerOf f)) (length (externs f (headerOf f)))
+    (replicate (PAGE-SIZE * pagesOf f) 0)
+
+abbrev pub marksOf : List ℕ → List ℕ
+marksOf f = markBytes (pagesOf f) (markCount (pagesOf f))
+
+abbrev pub fixesOf : List ℕ → ℕ → List ℕ
+fixesOf f base = fixTable base (outcomes f (headerOf f)) (relocationCount f (headerOf f)) (headerOf f .sections)

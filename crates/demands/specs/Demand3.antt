@@ -1,0 +1,202 @@
+-- The request's third demand, one claim about any list of patch calls that follows an accepted load, and about the same load at any other allowed base.
+use mathlib.Core.Path.{_≡_, refl, sym, ap, subst, _∙_}
+use mathlib.Core.Bool.{Bool, true, false}
+use mathlib.Core.List.{List}
+use mathlib.Core.Logic.{⊎-elim}
+use mathlib.Core.Option.{Option, none, some}
+use Prim.Native.Nat.{ℕ, _+_, _-_, _*_, _/_, _%_, _≤_, _<_}
+use native.Mathlib.Omega.{arith}
+use lib.Dec.{eqb, leb}
+use lib.IntN.{pos}
+use lib.ListN.{length, getD, replicate, length-replicate}
+use borrow.Author.Tests.{leb-true, ltb-true}
+use Rattle.util.specs.Pick.{pick, and-left, and-right}
+use Rattle.arch.specs.Page.{PAGE-SIZE}
+use Rattle.le.specs.Le.{get, le}
+use Rattle.object.specs.Format.{headerOf}
+use Rattle.object.specs.Section.{loaded, rangeLength}
+use Rattle.layout.specs.Layout.{startAt, undefStart, startsTo}
+use Rattle.layout.specs.LayoutLaws.{ranges-share-none, undef-behind, undef-fits}
+use Rattle.fixups.specs.declared.Fix.{Fix}
+use Rattle.fixups.specs.Signed.{signed, slot-keeps}
+use Rattle.fixups.specs.Value.{valueOf, isRelative}
+use Rattle.fixups.specs.ValueLaws.{Exact, relative-stays, other-rises, no-bit-lost}
+use Rattle.survey.specs.declared.answer.Counts.{Counts}
+use Rattle.survey.specs.declared.answer.Survey.the-variants.{Accepted}
+use Rattle.survey.specs.Survey.{surveyOf}
+use Rattle.survey.specs.Acceptance.{pages-few, names-few}
+use Rattle.survey.specs.Fixups.{fixups-exact, fixups-inside}
+use Rattle.image.specs.LaidLaws.{length-laid}
+use Rattle.patch.specs.declared.answer.Patch.{Patch}
+use Rattle.patch.specs.Fixes.{fixCount, placeAt, bitsAt, valueAt, widthOf}
+use Rattle.patch.specs.Patch.{patchCode}
+use Rattle.load.specs.Load.{MAX-BASE, baseOk}
+use Rattle.demands.specs.Calls.{Call, applied, afterCalls, answersTo}
+use Rattle.demands.specs.Origin.{Origin, fixupsOf, fixupAt, noFixup, slotsOf, fixupPlace, fixupWidth, fixupValue, undefAddress, slotValue, sectionAddress, inSection, latest, laidOrigin, originBy, origin, byteOf}
+use Rattle.demands.specs.Counted.{pagesOf, imageOf, marksOf, fixesOf}
+use Rattle.demands.specs.Applying.{written, plainCode, plainAnswers, applied-below, calls-write, answers-plain, length-written}
+use Rattle.demands.specs.Mapped.{Placed, fixes-counted, place-back, bits-back, value-back, only-position}
+use Rattle.demands.specs.Bytes.{seen, written-byte}
+use Rattle.demands.specs.Laying.{laid-byte}
+use Rattle.demands.specs.Moving.{origin-same}
+
+-- the image, and the answers, once the calls are made on what the load of f at the base leaves
+abbrev pub imageAfter : List ℕ → ℕ → List Call → List ℕ
+imageAfter f base calls = afterCalls base (marksOf f) (fixesOf f base) (imageOf f base) calls
+
+abbrev pub answersAfter : List ℕ → ℕ → List Call → List Patch
+answersAfter f base calls = answersTo base (marksOf f) (fixesOf f base) (imageOf f base) calls
+
+-- the fixups that the calls apply, the latest last: by their numbers and positions and the list's count alone
+abbrev pub appliedTo : List ℕ → List Call → List ℕ
+appliedTo f calls = applied (length (fixupsOf f)) calls
+
+-- ---- at a base
+pub record AtBase (f : List ℕ) (base : ℕ) (calls : List Call) : Type 0 where
+  -- the fix list is the load's fixups
+  pub count : fixCount (fixesOf f base) ≡ length (fixupsOf f)
+  pub places : (k : ℕ) → k < length (fixupsOf f) → placeAt (fixesOf f base) k ≡ fixupPlace f base k
+  pub widths : (k : ℕ) → k < length (fixupsOf f) → widthOf (bitsAt (fixesOf f base) k) ≡ fixupWidth f base k
+  pub values : (k : ℕ) → k < length (fixupsOf f) → valueAt (fixesOf f base) k ≡ fixupValue f base k
+  -- a call is refused for its position alone (14), and the answers follow from the calls and the list's count
+  pub refused : (number position : ℕ) → patchCode (PAGE-SIZE * pagesOf f) (marksOf f) base (fixesOf f base) number position ≡ plainCode (length (fixupsOf f)) position
+  pub answered : answersAfter f base calls ≡ plainAnswers (length (fixupsOf f)) calls
+  -- every byte of the image is its origin's
+  pub long : length (imageAfter f base calls) ≡ PAGE-SIZE * pagesOf f
+  pub bytes : (d : ℕ) → d < PAGE-SIZE * pagesOf f → getD (imageAfter f base calls) d 0 ≡ byteOf f base (origin f base (appliedTo f calls) (base + d))
+  -- no address lies in two section ranges, and UNDEF is behind them all
+  pub apart : (i j a : ℕ) → inSection f base a i ≡ true → inSection f base a j ≡ true → i ≡ j
+  pub behind : (i a : ℕ) → i < headerOf f .sections → inSection f base a i ≡ true → a < undefAddress f base
+  -- the bytes of a fixup and of a slot, as a signed number, give the value back
+  pub whole : (k : ℕ) → k < length (fixupsOf f)
+      → signed (fixupWidth f base k) (get (fixupWidth f base k) (le (fixupWidth f base k) (fixupValue f base k)) 0) ≡ signed 8 (fixupValue f base k)
+  pub slot-whole : (e : ℕ) → e < slotsOf f → signed 4 (get 4 (le 4 (slotValue f base e)) 0) ≡ pos (slotValue f base e)
+
+-- ---- at two bases
+pub record AtBoth (f : List ℕ) (b₁ b₂ : ℕ) (calls : List Call) : Type 0 where
+  pub answers : answersAfter f b₁ calls ≡ answersAfter f b₂ calls
+  -- bytes are paired by distance from the base
+  pub origins : (d : ℕ) → origin f b₁ (appliedTo f calls) (b₁ + d) ≡ origin f b₂ (appliedTo f calls) (b₂ + d)
+  pub relative : (k : ℕ) → isRelative (fixupAt f k .kind) ≡ true → fixupValue f b₂ k ≡ fixupValue f b₁ k
+  pub others : (k : ℕ) → k < length (fixupsOf f) → isRelative (fixupAt f k .kind) ≡ false → fixupValue f b₂ k + b₁ ≡ fixupValue f b₁ k + b₂
+  pub slots : (e : ℕ) → slotValue f b₂ e + b₁ ≡ slotValue f b₁ e + b₂
+
+pub record Demand3 (f : List ℕ) (b₁ b₂ : ℕ) (calls : List Call) : Type 0 where
+  pub one : AtBase f b₁ calls
+  pub other : AtBase f b₂ calls
+  pub both : AtBoth f b₁ b₂ calls
+
+-- ---- its only hypotheses: the file is accepted, the bases are allowed
+low : (base : ℕ) → baseOk base ≡ true → base ≤ 0x7F000000
+unfolding baseOk
+low base e = leb-true base MAX-BASE (and-right (eqb (base % PAGE-SIZE) 0) (leb base MAX-BASE) e)
+
+module _ (f : List ℕ) (c : Counts) (accepted : surveyOf f ≡ Accepted c) where
+  few : pagesOf f ≤ 4096
+  few = pages-few f c accepted
+
+  exact : (k : ℕ) → k < length (fixupsOf f) → Exact (fixupAt f k)
+  exact k l = fixups-exact f c accepted k noFixup l
+
+  placed : (k : ℕ) → k < length (fixupsOf f) → Placed f (fixupAt f k)
+  placed k l = record { bits = exact k l .bits; inside = fixups-inside f c accepted k noFixup l }
+
+  image-long : (base : ℕ) → length (imageOf f base) ≡ PAGE-SIZE * pagesOf f
+  image-long base =
+      length-laid f (headerOf f) (startsTo f (headerOf f) (headerOf f .sections)) (pagesOf f) base (undefStart f (headerOf f)) (slotsOf f) (replicate (PAGE-SIZE * pagesOf f) 0)
+      ∙ length-replicate (PAGE-SIZE * pagesOf f) 0
+
+  module _ (base : ℕ) (ok : baseOk base ≡ true) where
+    only : (number position : ℕ) → patchCode (PAGE-SIZE * pagesOf f) (marksOf f) base (fixesOf f base) number position ≡ plainCode (fixCount (fixesOf f base)) position
+    only = only-position f base (low base ok) few placed
+
+    writes : (calls : List Call) → imageAfter f base calls ≡ written base (fixesOf f base) (imageOf f base) (appliedTo f calls)
+    writes calls =
+        let e = calls-write base (fixesOf f base) (marksOf f) (PAGE-SIZE * pagesOf f) only calls (imageOf f base) (image-long base) in
+        rw (fixes-counted f base) at e
+
+    answers-are : (calls : List Call) → answersAfter f base calls ≡ plainAnswers (length (fixupsOf f)) calls
+    answers-are calls =
+        let e = answers-plain base (fixesOf f base) (marksOf f) (PAGE-SIZE * pagesOf f) only calls (imageOf f base) (image-long base) in
+        rw (fixes-counted f base) at e
+
+    by-origin : (d : ℕ) → d < PAGE-SIZE * pagesOf f → (o : Option ℕ) → seen f base (low base ok) few placed (imageOf f base) d o ≡ byteOf f base (originBy f base (base + d) o)
+    unfolding originBy
+    by-origin d l none =
+        laid-byte f base (replicate (PAGE-SIZE * pagesOf f) 0) few (names-few f c accepted) (rw length-replicate (omega arith)) d l
+    by-origin d l (some k) = refl
+
+    width-is : (k : ℕ) → k < length (fixupsOf f) → fixupWidth f base k ≡ fixupAt f k .bits / 8
+    unfolding pick
+    width-is k l = ⊎-elim (λ n. rw n) (λ n. rw n) (exact k l .bits)
+
+    record Holds (a i : ℕ) : Type 0 where
+      loads : loaded f (headerOf f) i ≡ true
+      from : sectionAddress f base i ≤ a
+      to : a < sectionAddress f base i + rangeLength f (headerOf f) i
+
+    holds : (a i : ℕ) → inSection f base a i ≡ true → Holds a i
+    unfolding inSection
+    holds a i e =
+        let r = and-right (loaded f (headerOf f) i) _ e in
+        record {
+          loads = and-left (loaded f (headerOf f) i) _ e;
+          from = leb-true _ _ (and-left _ _ r);
+          to = ltb-true _ _ (and-right (leb (sectionAddress f base i) a) _ r);
+        }
+
+    apart-at : (i j a : ℕ) → inSection f base a i ≡ true → inSection f base a j ≡ true → i ≡ j
+    apart-at i j a x y =
+        let p = holds a i x in
+        let q = holds a j y in
+        let p₁ = p .from in
+        let p₂ = p .to in
+        let q₁ = q .from in
+        let q₂ = q .to in
+        ranges-share-none f (headerOf f) i j (a - base) (p .loads) (q .loads) (omega arith) (omega arith) (omega arith) (omega arith)
+
+    behind-at : (i a : ℕ) → i < headerOf f .sections → inSection f base a i ≡ true → a < undefAddress f base
+    behind-at i a l x =
+        let p = holds a i x in
+        let p₂ = p .to in
+        let u = undef-behind f (headerOf f) i (p .loads) l in
+        omega arith
+
+    at-base : (calls : List Call) → AtBase f base calls
+    at-base calls =
+        record {
+          count = fixes-counted f base;
+          places = λ k l. place-back f base (low base ok) few placed k l;
+          widths = λ k l. ap widthOf (bits-back f base (low base ok) few placed k l);
+          values = λ k l. value-back f base (low base ok) few placed k l;
+          refused = λ number position. only number position ∙ ap (λ (n : ℕ). plainCode n position) (fixes-counted f base);
+          answered = answers-are calls;
+          long = ap (length {A = ℕ}) (writes calls) ∙ length-written base (fixesOf f base) (imageOf f base) (appliedTo f calls) ∙ image-long base;
+          bytes = λ d l.
+              ap (λ (i : List ℕ). getD i d 0) (writes calls)
+              ∙ written-byte f base (low base ok) few placed (appliedTo f calls) (imageOf f base) d (image-long base) (applied-below (length (fixupsOf f)) calls)
+              ∙ by-origin d l (latest f base (base + d) (appliedTo f calls));
+          apart = λ i j a x y. apart-at i j a x y;
+          behind = λ i a l x. behind-at i a l x;
+          whole = λ k l. rw (width-is k l) (no-bit-lost (fixupAt f k) (exact k l) base (low base ok));
+          slot-whole = λ e l.
+              let u = undef-fits f (headerOf f) few in
+              let n = names-few f c accepted in
+              let b = low base ok in
+              slot-keeps (slotValue f base e) (omega arith);
+        }
+
+  pub demand-3 : (b₁ b₂ : ℕ) → baseOk b₁ ≡ true → baseOk b₂ ≡ true → (calls : List Call) → Demand3 f b₁ b₂ calls
+  demand-3 b₁ b₂ o₁ o₂ calls =
+      record {
+        one = at-base b₁ o₁ calls;
+        other = at-base b₂ o₂ calls;
+        both =
+            record {
+              answers = answers-are b₁ o₁ calls ∙ sym (answers-are b₂ o₂ calls);
+              origins = λ d. origin-same f b₁ b₂ d (appliedTo f calls);
+              relative = λ k e. relative-stays (fixupAt f k) b₂ b₁ e;
+              others = λ k l e. other-rises (fixupAt f k) (exact k l) b₁ b₂ (low b₁ o₁) (low b₂ o₂) e;
+              slots = λ e. omega arith;
+            };
+      }

@@ -1,0 +1,14 @@
+pub mod Calls
+pub mod Origin
+pub mod Counted
+pub mod Applying
+pub mod Mapped
+pub mod Bytes
+pub mod Laying
+pub mod Moving
+pub mod Demand3
+pub mod Loaded
+pub mod Running
+pub mod Table
+pub mod Demand1
+pub mod Demand2

@@ -1,0 +1,66 @@
+-- What load's contract leaves is what the demands speak of: the counted parts follow from the file and the base, whatever the storage held before.
+use mathlib.Core.Path.{_≡_, refl, sym, ap, subst, _∙_}
+use mathlib.Core.Bool.{true}
+use mathlib.Core.List.{List}
+use Prim.Native.Nat.{ℕ, _+_, _*_, _≤_, _<_}
+use native.Mathlib.Omega.{arith}
+use native.Mathlib.Nat.{zero-add}
+use lib.ListN.{length, getD, replicate, length-replicate}
+use lib.Seq.{ext-getD}
+use Rattle.arch.specs.Page.{PAGE-SIZE}
+use Rattle.le.specs.Le.{part, part-at, length-part}
+use Rattle.object.specs.Format.{headerOf}
+use Rattle.layout.specs.Layout.{startsTo, undefStart, mappedPages}
+use Rattle.survey.specs.declared.answer.Counts.{Counts}
+use Rattle.survey.specs.declared.answer.Survey.the-variants.{Accepted}
+use Rattle.survey.specs.Survey.{surveyOf}
+use Rattle.image.specs.MarkWords.{markCount, markBytes}
+use Rattle.image.specs.LaidLaws.{laidImage, length-laid}
+use Rattle.load.specs.Load.{Storage, baseOk, Loads}
+use Rattle.load.specs.LoadLaws.{LoadAccepts, load-accepts, LoadLeaves, load-leaves, Rooms, rooms, pages-counted}
+use Rattle.demands.specs.Origin.{slotsOf, laidOrigin, byteOf}
+use Rattle.demands.specs.Counted.{pagesOf, imageOf, marksOf, fixesOf}
+use Rattle.demands.specs.Laying.{laid-byte}
+
+-- the laid bytes hang on nothing that stood in the storage
+module _ (f : List ℕ) (base : ℕ) (image : List ℕ) (few : pagesOf f ≤ 4096) (names : slotsOf f ≤ 1024) (room : PAGE-SIZE * pagesOf f ≤ length image) where
+  zeros : length {A = ℕ} (replicate (PAGE-SIZE * pagesOf f) 0) ≡ PAGE-SIZE * pagesOf f
+  zeros = length-replicate {A = ℕ} (PAGE-SIZE * pagesOf f) 0
+
+  laid-long : (i : List ℕ) → length (laidImage f (headerOf f) base (slotsOf f) i) ≡ length i
+  laid-long i = length-laid f (headerOf f) (startsTo f (headerOf f) (headerOf f .sections)) (pagesOf f) base (undefStart f (headerOf f)) (slotsOf f) i
+
+  part-long : length (part (laidImage f (headerOf f) base (slotsOf f) image) 0 (PAGE-SIZE * pagesOf f)) ≡ PAGE-SIZE * pagesOf f
+  part-long = length-part (laidImage f (headerOf f) base (slotsOf f) image) 0 (PAGE-SIZE * pagesOf f) (rw (laid-long image) (omega arith))
+
+  pub laid-counted : part (laidImage f (headerOf f) base (slotsOf f) image) 0 (PAGE-SIZE * pagesOf f) ≡ imageOf f base
+  laid-counted =
+      ext-getD 0 (part (laidImage f (headerOf f) base (slotsOf f) image) 0 (PAGE-SIZE * pagesOf f)) (imageOf f base)
+      (part-long ∙ sym (laid-long (replicate (PAGE-SIZE * pagesOf f) 0) ∙ zeros))
+      (λ k l.
+      let m : k < PAGE-SIZE * pagesOf f = rw part-long at l in
+      (part-at (laidImage f (headerOf f) base (slotsOf f) image) 0 (PAGE-SIZE * pagesOf f) k m ∙ rw zero-add)
+      ∙ laid-byte f base image few names room k m
+      ∙ sym (laid-byte f base (replicate (PAGE-SIZE * pagesOf f) 0) few names (rw zeros (omega arith)) k m))
+
+-- ---- the parts that later calls are given
+pub record Lends (f : List ℕ) (base : ℕ) (s′ : Storage) (c : Counts) : Type 0 where
+  pub accepted : surveyOf f ≡ Accepted c
+  pub allowed : baseOk base ≡ true
+  pub image : part (s′ .image) 0 (PAGE-SIZE * c .pages) ≡ imageOf f base
+  pub marks : part (s′ .marks) 0 (8 * markCount (c .pages)) ≡ marksOf f
+  pub fixes : part (s′ .fixups) 0 (24 * c .fixups) ≡ fixesOf f base
+
+pub load-lends : (f : List ℕ) (base : ℕ) (s s′ : Storage) (c : Counts) → Loads f base s s′ (Accepted c) → Lends f base s′ c
+load-lends f base s s′ c loads =
+    let a = load-accepts f base s s′ c loads in
+    let l = load-leaves f base s s′ c loads in
+    let p : c .pages ≡ pagesOf f = pages-counted f base s s′ c loads in
+    let r : PAGE-SIZE * pagesOf f ≤ length (s .image) = rw (← p) (rooms c _ (a .room) .image) in
+    record {
+      accepted = a .accepted;
+      allowed = a .allowed;
+      image = rw (l .image, p) (laid-counted f base (s .image) (a .pages) (a .names) r);
+      marks = l .marks .counted ∙ rw p;
+      fixes = l .fixups .counted;
+    }

@@ -1,0 +1,47 @@
+-- The fix list as bytes (docs/HOST.md), and what a fixup of it does to an image at a base (01, "Patch").
+use mathlib.Core.Bool.{Bool, _&&_, _||_}
+use mathlib.Core.List.{List}
+use Prim.Native.Nat.{ℕ, zero, suc, _+_, _-_, _*_, _/_}
+use lib.Dec.{eqb}
+use lib.ListN.{length}
+use Rattle.util.specs.Pick.{pick}
+use Rattle.le.specs.Le.{get, le, splice}
+use Rattle.aspace.specs.Space.{spanAt}
+
+abbrev pub FIXUP-BYTES : ℕ
+FIXUP-BYTES = 24
+
+-- whole records; what is left behind the last one is none
+abbrev pub fixCount : List ℕ → ℕ
+fixCount fixes = length fixes / FIXUP-BYTES
+
+-- record k: the address of its place, its bits, its value
+abbrev pub placeAt : List ℕ → ℕ → ℕ
+placeAt fixes k = get 8 fixes (FIXUP-BYTES * k)
+
+abbrev pub bitsAt : List ℕ → ℕ → ℕ
+bitsAt fixes k = get 8 fixes (FIXUP-BYTES * k + 8)
+
+abbrev pub valueAt : List ℕ → ℕ → ℕ
+valueAt fixes k = get 8 fixes (FIXUP-BYTES * k + 16)
+
+-- the bytes that it covers
+abbrev pub widthOf : ℕ → ℕ
+widthOf bits = pick (eqb bits 32) 4 8
+
+abbrev pub knownBits : ℕ → Bool
+knownBits bits = eqb bits 32 || eqb bits 64
+
+-- it can be applied: 32 or 64 bits, and all its bytes are mapped
+unfoldable pub fixOk : ℕ → List ℕ → ℕ → List ℕ → ℕ → Bool
+fixOk size marks base fixes k =
+    knownBits (bitsAt fixes k) && spanAt size marks base (placeAt fixes k) (widthOf (bitsAt fixes k))
+
+-- the image once it is applied: the low bytes of its value stand at its place
+unfoldable pub fixed : ℕ → List ℕ → List ℕ → ℕ → List ℕ
+fixed base fixes image k = splice image (placeAt fixes k - base) (le (widthOf (bitsAt fixes k)) (valueAt fixes k))
+
+-- and once the n fixups from p on are, in list order
+unfoldable pub fixedFrom : ℕ → List ℕ → List ℕ → ℕ → ℕ → List ℕ
+fixedFrom base fixes image p zero = image
+fixedFrom base fixes image p (suc n) = fixed base fixes (fixedFrom base fixes image p n) (p + n)

@@ -1,0 +1,2 @@
+pub mod Fixes
+pub mod Patch

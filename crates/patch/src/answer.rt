@@ -1,0 +1,11 @@
+// What patch answers.
+// The position behind the portion, and whether it is the list's end.
+pub struct Progress {
+    pub position: u64,
+    pub done: bool,
+}
+
+pub enum Patch {
+    Applied(Progress),
+    Refused(u64),
+}

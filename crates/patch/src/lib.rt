@@ -1,0 +1,167 @@
+// Patch: the fixups of a portion of the list, written over the image.
+mod answer;
+
+pub use answer::Patch;
+pub use answer::Progress;
+use arch::VA;
+ghost use mathlib.Core.Path.{_≡_};
+ghost use Prim.Native.Nat.{_+_, _<_, _≤_};
+ghost use lib.ListN.{length};
+ghost use Rattle.patch.specs.Fixes.{fixCount, placeAt, bitsAt, valueAt, widthOf, knownBits, fixOk, fixed, fixedFrom};
+ghost use Rattle.patch.specs.Patch.{portion, portionOk, patchCode, answerOf, progress, Patches};
+
+// The records of a fix list.
+pub fn fix_count(fixes: &[u8]) -> u64
+    ensures { λ r. ⌜ r ≡ fixCount (now (fixes .entry)) ⌝ }
+{
+    (fixes.len() / 24) as u64
+}
+
+fn place_at(fixes: &[u8], k: u64) -> u64
+    requires { ⌜ k < fixCount (now fixes) ⌝ }
+    ensures { λ r. ⌜ r ≡ placeAt (now (fixes .entry)) k ⌝ }
+{
+    le::u64_at(fixes, (24 * k) as usize)
+}
+
+fn bits_at(fixes: &[u8], k: u64) -> u64
+    requires { ⌜ k < fixCount (now fixes) ⌝ }
+    ensures { λ r. ⌜ r ≡ bitsAt (now (fixes .entry)) k ⌝ }
+{
+    le::u64_at(fixes, (24 * k + 8) as usize)
+}
+
+fn value_at(fixes: &[u8], k: u64) -> u64
+    requires { ⌜ k < fixCount (now fixes) ⌝ }
+    ensures { λ r. ⌜ r ≡ valueAt (now (fixes .entry)) k ⌝ }
+{
+    le::u64_at(fixes, (24 * k + 16) as usize)
+}
+
+fn width_of(bits: u64) -> u64
+    ensures { λ r. ⌜ r ≡ widthOf bits ⌝ }
+{
+    if bits == 32 { 4 } else { 8 }
+}
+
+fn known_bits(bits: u64) -> bool
+    ensures { λ r. ⌜ r ≡ knownBits bits ⌝ }
+{
+    if bits == 32 { true } else { bits == 64 }
+}
+
+fn fix_ok(size: u64, marks: &[u8], base: u64, fixes: &[u8], k: u64) -> bool
+    requires { ⌜ k < fixCount (now fixes) ⌝ }
+    ensures { λ r. ⌜ r ≡ fixOk size (now (marks .entry)) base (now (fixes .entry)) k ⌝ }
+{
+    let bits = bits_at(fixes, k);
+    if known_bits(bits) {
+        aspace::absolute::span_at(size, marks, base, place_at(fixes, k), width_of(bits))
+    } else {
+        false
+    }
+}
+
+fn portion_ok(size: u64, marks: &[u8], base: u64, fixes: &[u8], p: u64, n: u64) -> bool
+    requires { ⌜ p + n ≤ fixCount (now fixes) ⌝ }
+    ensures { λ r. ⌜ r ≡ portionOk size (now (marks .entry)) base (now (fixes .entry)) p n ⌝ }
+{
+    let mut i: u64 = 0;
+    while i < n {
+        if !fix_ok(size, marks, base, fixes, p + i) {
+            return false;
+        }
+        i += 1;
+    }
+    true
+}
+
+// The fixup's bytes go to its place.
+fn apply(base: u64, fixes: &[u8], k: u64, image: &mut [u8])
+    requires { ⌜ k < fixCount (now fixes) ⌝ }
+    ensures { λ _. ⌜ now (image .exit) ≡ fixed base (now (fixes .entry)) (now (image .entry)) k ⌝ }
+{
+    let at = (util::most(place_at(fixes, k), base) - base) as usize;
+    let value = value_at(fixes, k);
+    let narrow = bits_at(fixes, k) == 32;
+    if narrow {
+        let low = (value % 0x100000000) as u32;
+        le::put_u32(image, at, low);
+    } else {
+        le::put_u64(image, at, value);
+    }
+}
+
+fn apply_portion(base: u64, fixes: &[u8], p: u64, n: u64, image: &mut [u8])
+    requires { ⌜ p + n ≤ fixCount (now fixes) ⌝ }
+    ensures { λ _. ⌜ now (image .exit) ≡ fixedFrom base (now (fixes .entry)) (now (image .entry)) p n ⌝ }
+{
+    let mut k: u64 = 0;
+    while k < n {
+        apply(base, fixes, p + k, image);
+        k += 1;
+    }
+}
+
+fn portion_of(count: u64, number: u64, position: u64) -> u64
+    requires { ⌜ position ≤ count ⌝ }
+    ensures { λ r. ⌜ r ≡ portion count number position ⌝ }
+{
+    let left = count - position;
+    if number < left { number } else { left }
+}
+
+// 14, 13 and 15, all before the first byte is written.
+fn patch_code(size: u64, marks: &[u8], base: u64, fixes: &[u8], number: u64, position: u64) -> u64
+    ensures { λ r. ⌜ r ≡ patchCode size (now (marks .entry)) base (now (fixes .entry)) number position ⌝ }
+{
+    let count = fix_count(fixes);
+    let inside = position <= count;
+    if inside {
+        if pagemap::storage_ok(size, marks.len() as u64) {
+            if portion_ok(
+                size,
+                marks,
+                base,
+                fixes,
+                position,
+                portion_of(count, number, position),
+            ) {
+                0
+            } else {
+                refusal::NOT_MAPPED
+            }
+        } else {
+            refusal::STORAGE
+        }
+    } else {
+        refusal::POSITION
+    }
+}
+
+// Applies `number` fixups of the list from `position` on, or all that are left.
+pub fn patch(
+    base: VA,
+    image: &mut [u8],
+    marks: &[u8],
+    fixes: &[u8],
+    number: u64,
+    position: u64,
+) -> Patch
+    ensures { λ r. ⌜ Patches (base .0) (now (marks .entry)) (now (fixes .entry)) number position (now (image .entry)) (now (image .exit)) r ⌝ }
+{
+    let code = patch_code(image.len() as u64, marks, base.0, fixes, number, position);
+    if code == 0 {
+        let count = fix_count(fixes);
+        let n = portion_of(count, number, position);
+        apply_portion(base.0, fixes, position, n, image);
+        let next = position + n;
+        let done = next == count;
+        Patch::Applied(Progress {
+            position: next,
+            done: done,
+        })
+    } else {
+        Patch::Refused(code)
+    }
+}

@@ -1,0 +1,30 @@
+use borrow.Author.Needs.{needs}
+use mathlib.Core.Path.{_≡_}
+use Prim.Native.Nat.{_-_}
+use lib.ListN.{length}
+use Rattle.test_patch.proofs.cases.Statement.{statement}
+use Rattle.test_patch.proofs.cases.Tie as tie
+
+abbrev Inv-loop : tie.InvT-loop
+Inv-loop file₀ calls₀ n₀ file calls n = (length file ≡ length file₀) × (length calls ≡ length calls₀)
+
+abbrev μ-loop : tie.MeasureT-loop
+μ-loop file₀ calls₀ n₀ file calls n = 0xFFFFFFFFFFFFFFFF - n
+
+pub cases-spec : {M : Type 1} → statement M
+cases-spec =
+    tie.close
+    (tie.spec
+    Inv-loop
+    μ-loop
+    (λ c. search needs)
+    (λ c. search needs)
+    (λ c. search needs)
+    (λ c. search needs)
+    (λ c. search needs)
+    (λ c. search needs)
+    (λ c. search needs)
+    (λ c. search needs)
+    (λ c. search needs)
+    (λ c. search needs)
+    (λ c. search needs))

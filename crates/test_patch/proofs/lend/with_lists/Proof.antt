@@ -1,0 +1,21 @@
+use borrow.Author.Needs.{needs}
+use Rattle.test_patch.proofs.Laws.{part-long, zeros-part}
+use Rattle.test_patch.proofs.lend.with_lists.Statement.{statement}
+use Rattle.test_patch.proofs.lend.with_lists.Tie as tie
+
+pub with-lists-spec : {M : Type 1} → statement M
+with-lists-spec =
+    tie.close
+    (tie.spec
+    (λ c. search needs)
+    (λ c. search needs)
+    (λ c. search needs)
+    (λ c. search (needs, part-long, zeros-part))
+    (λ c. search needs)
+    (λ c. search (needs, part-long, zeros-part))
+    (λ c. search needs)
+    (λ c. search needs)
+    (λ c. search needs)
+    (λ c. search needs)
+    (λ c. search needs)
+    (λ c. search needs))
