@@ -1,0 +1,108 @@
+-- What the host is told: 0 or the number of a refusal, and results as words at the front of a lent buffer (docs/HOST.md, "Calling from C").
+use mathlib.Core.Path.{_≡_}
+use mathlib.Core.List.{List}
+use Prim.Native.Nat.{ℕ, _+_, _-_}
+use lib.Dec.{leb, eqb}
+use lib.ListN.{length}
+use Rattle.util.specs.Pick.{pick}
+use Rattle.le.specs.Le.{splice, part}
+use Rattle.refusal.specs.Refusal.{STORAGE, unlessRefused}
+use Rattle.refusal.specs.declared.Answer.{Answer}
+use Rattle.refusal.specs.declared.Answer.the-variants.{Done, Refused}
+use Rattle.object.specs.Format.{headerOf}
+use Rattle.survey.specs.declared.answer.Survey.{Survey}
+use Rattle.survey.specs.declared.answer.Survey.the-variants as survey
+use Rattle.survey.specs.Survey.{firstFailed, checks, counts}
+use Rattle.tables.specs.Words.{wordBytes}
+use Rattle.tables.specs.Results.{COUNTS-BYTES, countsWords, PROGRESS-BYTES, progressWords}
+use Rattle.load.specs.Load.{Storage, loadChecks, stored}
+use Rattle.patch.specs.declared.answer.Patch.{Patch}
+use Rattle.patch.specs.declared.answer.Patch.the-variants as patch
+use Rattle.patch.specs.Fixes.{fixCount, fixedFrom}
+use Rattle.patch.specs.Patch.{portion, patchCode}
+use Rattle.aspace.specs.Space.{readCodeAt}
+
+-- 13 first, where a buffer has no room for n bytes of results; then the operation's own refusals
+abbrev pub codeWith : ℕ → List ℕ → ℕ → ℕ
+codeWith n out code = pick (leb n (length out)) code STORAGE
+
+abbrev pub written : List ℕ → List ℕ → List ℕ
+written out words = splice out 0 (wordBytes words)
+
+-- the answer is the code; a lent buffer holds the new contents, or on a refusal what it held before. With one such buffer, and with two things lent
+pub record Told {A : Type 0} (code : ℕ) (new old at-exit : A) (r : ℕ) : Type 0 where
+  pub says : r ≡ code
+  pub leaves : at-exit ≡ unlessRefused code new old
+
+pub record ToldBoth {A B : Type 0} (code : ℕ) (new old at-exit : A) (new₂ old₂ at-exit₂ : B) (r : ℕ) : Type 0 where
+  pub says : r ≡ code
+  pub leaves : at-exit ≡ unlessRefused code new old
+  pub leaves₂ : at-exit₂ ≡ unlessRefused code new₂ old₂
+
+-- survey: the counts of the file
+abbrev pub Surveyed : List ℕ → List ℕ → List ℕ → ℕ → Type 0
+Surveyed f out out′ r =
+    Told (codeWith COUNTS-BYTES out (firstFailed (checks f (headerOf f)))) (written out (countsWords (counts f (headerOf f)))) out out′ r
+
+-- load: the seven buffers, and the counts of the file
+abbrev pub Loaded : List ℕ → ℕ → Storage → Storage → List ℕ → List ℕ → ℕ → Type 0
+Loaded f base s s′ out out′ r =
+    ToldBoth
+    (codeWith COUNTS-BYTES out (firstFailed (loadChecks f (headerOf f) base s)))
+    (stored f (headerOf f) base s)
+    s
+    s′
+    (written out (countsWords (counts f (headerOf f))))
+    out
+    out′
+    r
+
+-- patch: the image, the position behind the portion and whether it is the list's end
+abbrev pub portionEnd : List ℕ → ℕ → ℕ → ℕ
+portionEnd fixes number position = position + portion (fixCount fixes) number position
+
+abbrev pub Patched : ℕ → List ℕ → List ℕ → ℕ → ℕ → List ℕ → List ℕ → List ℕ → List ℕ → ℕ → Type 0
+Patched base marks fixes number position image image′ out out′ r =
+    ToldBoth
+    (codeWith PROGRESS-BYTES out (patchCode (length image) marks base fixes number position))
+    (fixedFrom base fixes image position (portion (fixCount fixes) number position))
+    image
+    image′
+    (written out (progressWords (portionEnd fixes number position) (eqb (portionEnd fixes number position) (fixCount fixes))))
+    out
+    out′
+    r
+
+-- read: the image's bytes from the address on, as many as the buffer takes
+abbrev pub Read : ℕ → List ℕ → List ℕ → ℕ → List ℕ → List ℕ → ℕ → Type 0
+Read base image marks address out out′ r =
+    Told (readCodeAt (length image) marks base address (length out)) (part image (address - base) (length out)) out out′ r
+
+-- ---- the answers of the operations themselves, told
+unfoldable pub answerCode : Answer → ℕ
+answerCode Done = 0
+answerCode (Refused n) = n
+
+unfoldable pub surveyCode : Survey → ℕ
+surveyCode (survey.Accepted c) = 0
+surveyCode (survey.Refused n) = n
+
+unfoldable pub countsIn : Survey → List ℕ → List ℕ
+countsIn (survey.Accepted c) out = written out (countsWords c)
+countsIn (survey.Refused n) out = out
+
+pub record CountsTold (answer : Survey) (out out′ : List ℕ) (r : ℕ) : Type 0 where
+  pub says : r ≡ surveyCode answer
+  pub result : out′ ≡ countsIn answer out
+
+unfoldable pub patchAnswerCode : Patch → ℕ
+patchAnswerCode (patch.Applied p) = 0
+patchAnswerCode (patch.Refused n) = n
+
+unfoldable pub progressIn : Patch → List ℕ → List ℕ
+progressIn (patch.Applied p) out = written out (progressWords (p .position) (p .done))
+progressIn (patch.Refused n) out = out
+
+pub record ProgressTold (answer : Patch) (out out′ : List ℕ) (r : ℕ) : Type 0 where
+  pub says : r ≡ patchAnswerCode answer
+  pub result : out′ ≡ progressIn answer out

@@ -1,0 +1,137 @@
+// What the station's host calls from C: survey, load, patch and read, on numbers and lent bytes. Each answers 0 or the number of its
+// refusal; what else there is to say goes to the front of a lent buffer, as words (docs/HOST.md). Too short a buffer for that is 13.
+use arch::VA;
+use patch::Patch;
+use refusal::Answer;
+use survey::Survey;
+ghost use mathlib.Core.Path.{_≡_};
+ghost use Rattle.load.specs.Loading.{storage};
+ghost use Rattle.station.specs.Station.{CountsTold, ProgressTold, answerCode, Surveyed, Loaded, Patched, Read};
+
+pub const COUNTS_BYTES: usize = 80;
+
+pub const PROGRESS_BYTES: usize = 16;
+
+fn tell_counts(answer: Survey, out: &mut [u8]) -> u64
+    ensures { λ r. ⌜ CountsTold answer (now (out .entry)) (now (out .exit)) r ⌝ }
+{
+    match answer {
+        Survey::Accepted(c) => {
+            tables::write_counts(c, out);
+            0
+        }
+        Survey::Refused(n) => n,
+    }
+}
+
+fn tell_progress(answer: Patch, out: &mut [u8]) -> u64
+    ensures { λ r. ⌜ ProgressTold answer (now (out .entry)) (now (out .exit)) r ⌝ }
+{
+    match answer {
+        Patch::Applied(p) => {
+            tables::write_progress(p.position, p.done, out);
+            0
+        }
+        Patch::Refused(n) => n,
+    }
+}
+
+fn answer_code(answer: Answer) -> u64
+    ensures { λ r. ⌜ r ≡ answerCode answer ⌝ }
+{
+    match answer {
+        Answer::Done => 0,
+        Answer::Refused(n) => n,
+    }
+}
+
+// The counts of a file: 80 bytes.
+#[no_mangle]
+pub extern "C" fn nelgrauf_survey(file: &[u8], counts: &mut [u8]) -> u64
+    ensures { λ r. ⌜ Surveyed (now (file .entry)) (now (counts .entry)) (now (counts .exit)) r ⌝ }
+{
+    let room = COUNTS_BYTES <= counts.len();
+    if room {
+        tell_counts(survey::survey(file), counts)
+    } else {
+        refusal::STORAGE
+    }
+}
+
+// Tables, marks and image of a file at a base, and its counts.
+#[no_mangle]
+pub extern "C" fn nelgrauf_load(
+    file: &[u8],
+    base: u64,
+    image: &mut [u8],
+    marks: &mut [u8],
+    sections: &mut [u8],
+    symbols: &mut [u8],
+    externs: &mut [u8],
+    fixups: &mut [u8],
+    skips: &mut [u8],
+    counts: &mut [u8],
+) -> u64
+    ensures { λ r.
+        ⌜ Loaded (now (file .entry)) base
+        (storage (now (image .entry)) (now (marks .entry)) (now (sections .entry)) (now (symbols .entry)) (now (externs .entry)) (now (fixups .entry)) (now (skips .entry)))
+        (storage (now (image .exit)) (now (marks .exit)) (now (sections .exit)) (now (symbols .exit)) (now (externs .exit)) (now (fixups .exit)) (now (skips .exit)))
+        (now (counts .entry)) (now (counts .exit)) r ⌝ }
+{
+    let room = COUNTS_BYTES <= counts.len();
+    if room {
+        let answer = load::load(
+            file,
+            VA(base),
+            image,
+            marks,
+            sections,
+            symbols,
+            externs,
+            fixups,
+            skips,
+        );
+        tell_counts(answer, counts)
+    } else {
+        refusal::STORAGE
+    }
+}
+
+// `number` fixups of the list from `position` on, or all that are left; where that ended and whether the list did: 16 bytes.
+#[no_mangle]
+pub extern "C" fn nelgrauf_patch(
+    base: u64,
+    image: &mut [u8],
+    marks: &[u8],
+    fixups: &[u8],
+    number: u64,
+    position: u64,
+    progress: &mut [u8],
+) -> u64
+    ensures { λ r.
+        ⌜ Patched base (now (marks .entry)) (now (fixups .entry)) number position (now (image .entry)) (now (image .exit)) (now (progress .entry)) (now (progress .exit)) r ⌝ }
+{
+    let room = PROGRESS_BYTES <= progress.len();
+    if room {
+        tell_progress(
+            patch::patch(VA(base), image, marks, fixups, number, position),
+            progress,
+        )
+    } else {
+        refusal::STORAGE
+    }
+}
+
+// The bytes of the image from an address on, as many as `out` takes.
+#[no_mangle]
+pub extern "C" fn nelgrauf_read(
+    base: u64,
+    image: &[u8],
+    marks: &[u8],
+    address: u64,
+    out: &mut [u8],
+) -> u64
+    ensures { λ r. ⌜ Read base (now (image .entry)) (now (marks .entry)) address (now (out .entry)) (now (out .exit)) r ⌝ }
+{
+    answer_code(aspace::absolute::read_into(image, marks, VA(base), VA(address), out))
+}
