@@ -1,0 +1,4 @@
+pub mod Word
+pub mod Words
+pub mod Scan
+pub mod ScanBytes

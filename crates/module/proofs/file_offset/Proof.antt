@@ -1,0 +1,27 @@
+-- `module::file_offset` meets its contract: it is a scan (`proofs/Scan.antt`) by `holds`. Assumes nothing.
+use contract.Running.{givenOf, tables, tablesOf}
+use denote.Triple.Spec.{tripleOf}
+use denote.Triple.Table.{entered, cited}
+use Rattle.module.specs.Section.{holds, offsetIn, NONE}
+use Rattle.module.proofs.Words.{va-word, number-word}
+use Rattle.module.proofs.Scan.{Test, Answer, None, scan-meets}
+use Rattle.module.proofs.holds.Symbol as test
+use Rattle.module.proofs.holds.Met as test-thm
+use Rattle.module.proofs.offset_in.Symbol as answer
+use Rattle.module.proofs.offset_in.Met as answer-thm
+use Rattle.module.proofs.no_section.Symbol as none
+use Rattle.module.proofs.no_section.Met as none-thm
+use Rattle.module.proofs.file_offset.Key.{name as #f}
+use Rattle.module.proofs.file_offset as f
+use Rattle.module.proofs.file_offset.Statement as stated
+use Rattle.module.proofs.file_offset.Code as code
+
+pub file-offset-spec : {M : Type 1} → stated.statement M
+unfolding code.routine tablesOf
+file-offset-spec 𝓤 H 𝓜 𝓖 𝓡 =
+    entered 𝓤 H (tripleOf 𝓤 H (𝓖 .A) f.signature (f.spec 𝓤 H (𝓖 .A) (𝓜 .mem) (𝓡 .run)))
+    (tables 𝓤 H 𝓜 𝓡 code.env .C) (tables 𝓤 H 𝓜 𝓡 code.env .Λ) #f code.function (code.unfolded 𝓤 H 𝓜 𝓡)
+    (scan-meets va-word number-word holds offsetIn NONE 𝓤 H (𝓖 .A) (givenOf 𝓤 H 𝓜 𝓖) test.name answer.name none.name (tablesOf 𝓤 H 𝓜 (tables 𝓤 H 𝓜 𝓡 code.env))
+    (cited 𝓤 H (Test va-word number-word holds offsetIn NONE 𝓤 H (𝓖 .A)) 𝓜 𝓡 code.env test.name test.routine code.calls-module·holds (test-thm.met 𝓤 H 𝓜 𝓖 𝓡))
+    (cited 𝓤 H (Answer va-word number-word holds offsetIn NONE 𝓤 H (𝓖 .A)) 𝓜 𝓡 code.env answer.name answer.routine code.calls-module·offset-in (answer-thm.met 𝓤 H 𝓜 𝓖 𝓡))
+    (cited 𝓤 H (None va-word number-word holds offsetIn NONE 𝓤 H (𝓖 .A)) 𝓜 𝓡 code.env none.name none.routine code.calls-module·no-section (none-thm.met 𝓤 H 𝓜 𝓖 𝓡)))

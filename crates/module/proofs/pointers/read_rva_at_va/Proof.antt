@@ -1,0 +1,11 @@
+use borrow.Author.Needs.{needs}
+use Rattle.module.proofs.pointers.read_rva_at_va.Statement.{statement}
+use Rattle.module.proofs.pointers.read_rva_at_va.Tie as tie
+
+pub read-rva-at-va-spec : {M : Type 1} → statement M
+read-rva-at-va-spec =
+    tie.close
+    (tie.spec
+    (λ c κs. search needs)
+    (λ c κs. search needs)
+    (λ c. cc))

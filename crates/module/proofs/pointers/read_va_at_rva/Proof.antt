@@ -1,0 +1,11 @@
+use borrow.Author.Needs.{needs}
+use Rattle.module.proofs.pointers.read_va_at_rva.Statement.{statement}
+use Rattle.module.proofs.pointers.read_va_at_rva.Tie as tie
+
+pub read-va-at-rva-spec : {M : Type 1} → statement M
+read-va-at-rva-spec =
+    tie.close
+    (tie.spec
+    (λ c κs. search needs)
+    (λ c κs. search needs)
+    (λ c. cc))

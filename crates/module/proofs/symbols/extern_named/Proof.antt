@@ -1,0 +1,25 @@
+use mathlib.Core.Path.{_≡_}
+use borrow.Author.Needs.{needs}
+use Rattle.module.specs.Symbol.{externCount, externNamed, hasName, lastTo, scans}
+use Rattle.module.proofs.symbols.extern_named.Statement.{statement}
+use Rattle.module.proofs.symbols.extern_named.Tie as tie
+
+abbrev Inv-loop : tie.InvT-loop
+Inv-loop file table name n₀ n = lastTo (hasName 4 (externCount table) file table name) n ≡ externNamed file table name
+
+abbrev μ-loop : tie.MeasureT-loop
+μ-loop file table name n₀ n = n
+
+pub extern-named-spec : {M : Type 1} → statement M
+extern-named-spec =
+    tie.close
+    (tie.spec
+    Inv-loop
+    μ-loop
+    (λ c. search (needs, scans))
+    (λ c. search (needs, scans))
+    (λ c κs. search needs)
+    (λ c. search (needs, scans))
+    (λ c. search (needs, scans))
+    (λ c. search (needs, scans))
+    (λ c. search (needs, scans)))
