@@ -1,0 +1,29 @@
+use borrow.Author.Needs.{needs}
+use Prim.Native.Nat.{_-_, _≤_}
+use Rattle.test_module.proofs.lists.symbols.Statement.{statement}
+use Rattle.test_module.proofs.lists.symbols.Tie as tie
+
+abbrev Inv-loop : tie.InvT-loop
+Inv-loop f table n k₀ t5 t6 k = k ≤ n
+
+abbrev μ-loop : tie.MeasureT-loop
+μ-loop f table n k₀ t5 t6 k = n - k
+
+pub symbols-spec : {M : Type 1} → statement M
+symbols-spec =
+    tie.close
+    (tie.spec
+    Inv-loop
+    μ-loop
+    (λ c. search needs)
+    (λ c. search needs)
+    (λ c. search needs)
+    (λ c. search needs)
+    (λ c. search needs)
+    (λ c. search needs)
+    (λ c. search needs)
+    (λ c. search needs)
+    (λ c. search needs)
+    (λ c. search needs)
+    (λ c. search needs)
+    (λ c. search needs))

@@ -1,0 +1,90 @@
+// The questions to the section table, on a table by value.
+ghost use mathlib.Core.Path.{_≡_};
+ghost use Rattle.module.specs.Section.{
+  filled,
+  fileOffset,
+  virtualAddress,
+  sectionOf,
+  sectionOfOffset,
+  sectionNamed,
+  isInImage,
+  probeVa,
+};
+use arch::VA;
+use module::AddressAnswer;
+use module::Probe;
+use module::Section;
+use refusal::Number;
+
+// A record with no range, no bytes in the file and an empty name.
+fn none() -> Section {
+    Section {
+        start: 0,
+        end: 0,
+        file_start: 0,
+        file_end: 0,
+        permissions: 0,
+        name_start: 0,
+        name_length: 0,
+        number: 1,
+    }
+}
+
+fn blank() -> [Section; 17] {
+    [none(); 17]
+}
+
+// The records of the table, and behind them those of `unused`.
+fn filled(table: &[u8], unused: [Section; 17]) -> [Section; 17]
+    ensures { λ r. ⌜ r ≡ filled (now (table .entry)) unused ⌝ }
+{
+    let mut t = unused;
+    module::fill_sections(table, &mut t);
+    t
+}
+
+pub fn sections(table: &[u8]) -> [Section; 17] {
+    filled(table, blank())
+}
+
+pub fn file_offset(t: [Section; 17], va: VA) -> Number
+    ensures { λ r. ⌜ r ≡ fileOffset t va ⌝ }
+{
+    module::file_offset(&t, va)
+}
+
+pub fn section_of(t: [Section; 17], va: VA) -> Number
+    ensures { λ r. ⌜ r ≡ sectionOf t va ⌝ }
+{
+    module::section_of(&t, va)
+}
+
+pub fn is_in_image(t: [Section; 17], va: VA) -> bool
+    ensures { λ r. ⌜ r ≡ isInImage t va ⌝ }
+{
+    module::is_in_image(&t, va)
+}
+
+pub fn probe_va(t: [Section; 17], q: Probe) -> bool
+    ensures { λ r. ⌜ r ≡ probeVa t q ⌝ }
+{
+    module::probe_va(&t, q)
+}
+
+pub fn virtual_address(t: [Section; 17], offset: u64) -> AddressAnswer
+    ensures { λ r. ⌜ r ≡ virtualAddress t offset ⌝ }
+{
+    module::virtual_address(&t, offset)
+}
+
+pub fn section_of_offset(t: [Section; 17], offset: u64) -> Number
+    ensures { λ r. ⌜ r ≡ sectionOfOffset t offset ⌝ }
+{
+    module::section_of_offset(&t, offset)
+}
+
+pub fn section_named(t: [Section; 17], file: &[u8], name: &[u8]) -> Number
+    ensures { λ r. ⌜ r ≡ sectionNamed t (now (file .entry)) (now (name .entry)) ⌝ }
+{
+    module::section_named(&t, file, name)
+}

@@ -1,0 +1,31 @@
+// Answers on standard output.
+use module::AddressAnswer;
+use refusal::Number;
+
+pub fn refused(n: u64) {
+    lines::part(b"refused ", n);
+    lines::line(b"");
+}
+
+// A number, or `refused` and its number.
+pub fn number(n: Number) {
+    match n {
+        Number::Value(k) => lines::part(b" ", k),
+        Number::Refusal(k) => lines::part(b" refused ", k),
+    }
+}
+
+pub fn address(a: AddressAnswer) {
+    match a {
+        AddressAnswer::Found(va) => lines::address(b" ", va.0),
+        AddressAnswer::Refused(k) => lines::part(b" refused ", k),
+    }
+}
+
+pub fn yes(b: bool) {
+    if b {
+        lines::text(b" yes");
+    } else {
+        lines::text(b" no");
+    }
+}
