@@ -9,9 +9,11 @@ ghost use Rattle.module.specs.Section.{
   sectionNamed,
   isInImage,
   probeVa,
+  probeRva,
 };
 use arch::VA;
 use module::AddressAnswer;
+use module::OffsetProbe;
 use module::Probe;
 use module::Section;
 use refusal::Number;
@@ -69,6 +71,12 @@ pub fn probe_va(t: [Section; 17], q: Probe) -> bool
     ensures { λ r. ⌜ r ≡ probeVa t q ⌝ }
 {
     module::probe_va(&t, q)
+}
+
+pub fn probe_rva(t: [Section; 17], q: OffsetProbe) -> bool
+    ensures { λ r. ⌜ r ≡ probeRva t q ⌝ }
+{
+    module::probe_rva(&t, q)
 }
 
 pub fn virtual_address(t: [Section; 17], offset: u64) -> AddressAnswer

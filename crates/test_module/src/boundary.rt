@@ -1,12 +1,15 @@
 // Questions at the boundaries of the section table.
+use crate::BASE;
 use crate::ask;
 use crate::say;
+use arch::RVA;
 use arch::VA;
+use module::OffsetProbe;
 use module::Probe;
 use module::Section;
 
 // Word k of section record i.
-fn word(table: &[u8], i: u16, k: u8) -> u64 {
+pub fn word(table: &[u8], i: u16, k: u8) -> u64 {
     le::u64_at(table, i as usize * 64 + k as usize * 8)
 }
 
@@ -49,8 +52,16 @@ fn file_range(t: [Section; 17], start: u64, end: u64) {
     byte(t, end);
 }
 
-// An address: its file offset, its section, whether it is in the image, and probes for 0, 1, 2, 4 and 7.
+// An address, and the offset that it is from the base; below the base it is none.
 fn at(t: [Section; 17], a: u64) {
+    address(t, a);
+    if BASE <= a {
+        offset(t, a - BASE);
+    }
+}
+
+// An address: its file offset, its section, whether it is in the image, and probes for 0, 1, 2, 4 and 7.
+fn address(t: [Section; 17], a: u64) {
     lines::address(b"at ", a);
     say::number(ask::file_offset(t, VA(a)));
     say::number(ask::section_of(t, VA(a)));
@@ -69,6 +80,26 @@ fn probe(t: [Section; 17], a: u64, permissions: u64) {
         permissions: permissions,
     };
     say::yes(ask::probe_va(t, q));
+}
+
+// An offset from the base: the same probes.
+fn offset(t: [Section; 17], o: u64) {
+    lines::address(b"offset ", o);
+    probe_offset(t, o, 0);
+    probe_offset(t, o, 1);
+    probe_offset(t, o, 2);
+    probe_offset(t, o, 4);
+    probe_offset(t, o, 7);
+    lines::line(b"");
+}
+
+fn probe_offset(t: [Section; 17], o: u64, permissions: u64) {
+    let q = OffsetProbe {
+        base: VA(BASE),
+        rva: RVA(o),
+        permissions: permissions,
+    };
+    say::yes(ask::probe_rva(t, q));
 }
 
 // A place in the file: its address and its section.

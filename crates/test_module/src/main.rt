@@ -4,6 +4,7 @@
 mod ask;
 mod boundary;
 mod lists;
+mod pointers;
 mod say;
 
 use arch::VA;
@@ -70,7 +71,10 @@ fn loaded(f: &[u8]) {
     );
     match s {
         Survey::Refused(n) => say::refused(n),
-        Survey::Accepted(c) => asked(f, c, &sections, &symbols, &externs),
+        Survey::Accepted(c) => {
+            asked(f, c, &sections, &symbols, &externs);
+            read(f, c, &image, &marks, &sections);
+        }
     }
 }
 
@@ -82,4 +86,12 @@ fn asked(f: &[u8], c: Counts, sections: &[u8], symbols: &[u8], externs: &[u8]) {
     lists::symbols(f, le::part(symbols, 0, k as usize * 48), k);
     let e = lines::few(c.externs);
     lists::externs(f, le::part(externs, 0, e as usize * 32), e);
+}
+
+// The pointers, as wide as the object's machine has them.
+fn read(f: &[u8], c: Counts, image: &[u8], marks: &[u8], sections: &[u8]) {
+    let arch = survey::machine_of(object::read_header(f));
+    let n = lines::few(c.sections);
+    let table = le::part(sections, 0, n as usize * 64);
+    pointers::all(image, marks, arch, table, n, lines::few(c.pages));
 }

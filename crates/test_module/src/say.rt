@@ -1,5 +1,6 @@
 // Answers on standard output.
 use module::AddressAnswer;
+use module::OffsetAnswer;
 use refusal::Number;
 
 pub fn refused(n: u64) {
@@ -19,6 +20,13 @@ pub fn address(a: AddressAnswer) {
     match a {
         AddressAnswer::Found(va) => lines::address(b" ", va.0),
         AddressAnswer::Refused(k) => lines::part(b" refused ", k),
+    }
+}
+
+pub fn offset(a: OffsetAnswer) {
+    match a {
+        OffsetAnswer::Found(rva) => lines::address(b" ", rva.0),
+        OffsetAnswer::Refused(k) => lines::part(b" refused ", k),
     }
 }
 
