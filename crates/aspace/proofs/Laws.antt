@@ -1,25 +1,22 @@
 -- The ways through the readers and writers. Assumes nothing.
 use mathlib.Core.Path.{_≡_, refl, sym, ap, _∙_}
-use mathlib.Core.Bool.{Bool, true, false, _&&_, _||_, not, and-false, or-false}
+use mathlib.Core.Bool.{Bool, true, false, and-false, or-false}
 use mathlib.Core.List.{List, [], append-nil}
 use lib.Seq.{drop-length}
-use Prim.Native.Nat.{ℕ, zero, suc, _+_, _-_, _*_, _^_, _≤_, _<_, max}
+use Prim.Native.Nat.{ℕ, suc, _+_, _-_, _^_, _≤_, _<_, max}
 use native.Mathlib.Omega.{arith}
 use lib.Dec.{leb, ltb, eqb}
-use lib.ListN.{length, getD, List·getD-eq-default}
+use lib.ListN.{length, getD}
 use mathlib.Core.Logic.{⊎-elim}
 use borrow.Author.Tests.{leb-true, le-leb, lt-leb, lt-ltb, le-ltb, ne-eqb}
 use Rattle.util.specs.Pick.{pick, pick-yes, pick-no, leb-same, and-left, and-right, yes-no}
-use Rattle.arch.specs.declared.Offset.{Offset}
-use Rattle.arch.specs.declared.Offset.the-variants.{At, None}
 use Rattle.arch.specs.declared.RVA.{RVA}
-use Rattle.arch.specs.Address.{rva, offsetOf, offsetPlus}
-use Rattle.le.specs.Le.{get, le, part, splice, splice-front, length-part}
+use Rattle.le.specs.Le.{get, part, splice, splice-front, length-part}
 use Rattle.refusal.specs.declared.Answer as answer
 use Rattle.refusal.specs.declared.Number.the-variants.{Value, Refusal}
 use Rattle.refusal.specs.Refusal.{Leaves, NOT-MAPPED, STORAGE, value-is, refusal-is, leaves-refused}
 use Rattle.pagemap.specs.Pages.{storageOk, spanMapped, readCode, probed}
-use Rattle.pagemap.specs.PageLaws.{read-in, span-in}
+use Rattle.pagemap.specs.PageLaws.{span-in}
 use Rattle.aspace.specs.declared.Width.{Width}
 use Rattle.aspace.specs.declared.Width.the-variants.{W8, W16, W32, W64}
 use Rattle.aspace.specs.declared.Ascii.{Ascii}

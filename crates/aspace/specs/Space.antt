@@ -5,8 +5,6 @@ use Prim.Native.Nat.{ℕ, _+_, _-_, _^_, max}
 use lib.ListN.{length}
 use lib.Dec.{leb}
 use Rattle.util.specs.Pick.{pick}
-use Rattle.arch.specs.declared.Arch.{Arch}
-use Rattle.arch.specs.Machine.{pointerSize}
 use Rattle.le.specs.Le.{get}
 use Rattle.refusal.specs.declared.Number.{Number}
 use Rattle.refusal.specs.Refusal.{STORAGE, NOT-MAPPED, TOO-LONG, numberOf}
@@ -47,6 +45,7 @@ reached base a n = leb base a && leb (a + max n 1) (2 ^ 64)
 unfoldable pub spanAt : ℕ → List ℕ → ℕ → ℕ → ℕ → Bool
 spanAt size marks base a n = reached base a n && spanMapped size marks (a - base) n
 
+-- reading: 13, 15; with a buffer of `room` bytes 13 first; writing: 13, 18, 15
 unfoldable pub readCodeAt : ℕ → List ℕ → ℕ → ℕ → ℕ → ℕ
 readCodeAt size marks base a n = pick (storageOk size (length marks)) (pick (spanAt size marks base a n) 0 NOT-MAPPED) STORAGE
 

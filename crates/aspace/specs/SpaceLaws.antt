@@ -1,6 +1,6 @@
 -- What holds of the spaces' definitions, as later layers ask it.
-use mathlib.Core.Path.{_≡_, refl, sym, ap, _∙_}
-use mathlib.Core.Bool.{Bool, true, false, _&&_}
+use mathlib.Core.Path.{_≡_}
+use mathlib.Core.Bool.{true}
 use mathlib.Core.List.{List}
 use mathlib.Core.Logic.{_⊎_, ⊎-elim}
 use Prim.Native.Nat.{ℕ, _+_, _-_, _^_, _≤_, _<_, max}
@@ -9,8 +9,7 @@ use lib.ListN.{length, getD}
 use lib.Dec.{leb}
 use borrow.Author.Tests.{le-leb}
 use Rattle.util.specs.Pick.{pick, passed, passed-on}
-use Rattle.le.specs.Le.{get, le, part, splice, length-splice, splice-below, splice-above, part-splice, get-splice}
-use Rattle.refusal.specs.declared.Number.{Number}
+use Rattle.le.specs.Le.{le, part, splice, length-splice, splice-below, splice-above, part-splice, get-splice}
 use Rattle.refusal.specs.declared.Number.the-variants.{Value}
 use Rattle.refusal.specs.Refusal.{numberOf}
 use Rattle.pagemap.specs.Pages.{storageOk, spanMapped, readCode}

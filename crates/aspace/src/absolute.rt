@@ -17,7 +17,6 @@ use refusal::TOO_LONG;
 ghost use mathlib.Core.Path.{_≡_};
 ghost use Prim.Native.Nat.{_-_};
 ghost use lib.ListN.{length};
-ghost use Rattle.util.specs.Pick.{pick};
 ghost use Rattle.arch.specs.Machine.{pointerSize};
 ghost use Rattle.le.specs.Le.{le, part, splice};
 ghost use Rattle.refusal.specs.Refusal.{Leaves};

@@ -1,13 +1,13 @@
 -- The ways through the checks. Assumes nothing.
-use mathlib.Core.Path.{_≡_, refl, sym, ap, _∙_}
-use mathlib.Core.Bool.{Bool, true, false, _&&_, _||_, not, and-true, and-false}
+use mathlib.Core.Path.{_≡_, refl}
+use mathlib.Core.Bool.{Bool, true, false, not, and-true, and-false}
 use mathlib.Core.List.{List}
-use Prim.Native.Nat.{ℕ, zero, suc, _+_, _-_, _*_, _≤_, _<_}
+use Prim.Native.Nat.{ℕ, _+_, _-_, _*_, _≤_, _<_}
 use native.Mathlib.Omega.{arith}
 use native.Mathlib.Numerals.{add-one}
 use lib.Dec.{leb, eqb}
 use lib.ListN.{length}
-use borrow.Author.Tests.{eq-eqb, ne-eqb, not-true, not-false}
+use borrow.Author.Tests.{ne-eqb, not-true, not-false}
 use Rattle.util.specs.Pick.{pick}
 use Rattle.util.specs.Prefix.{allTo, all-none, all-more, all-stop, all-end}
 use Rattle.arch.specs.declared.Machine.{Machine}
@@ -20,7 +20,8 @@ use Rattle.object.specs.declared.Place.the-variants.{In}
 use Rattle.object.specs.Format.{sectionAt, stringTable, stringLength, virtualAddress, rawPointer, rawSize, relocationPointer, auxiliaries}
 use Rattle.object.specs.Section.{loaded, uninitialized, extended, relocationRecords}
 use Rattle.object.specs.Symbol.{owed}
-use Rattle.checks.specs.Checks.{sizeOk, machineOk, isKnown, sectionTableOk, stringsOk, symbolTableOk, bytesOk, dataOk, relocationsOk, sectionsOk, sectionOk, relocationTotal, symbolFine, fineAt, allSymbols, nameOk, namesOk, sectionNameOk, placeWithin, owedNext}
+use Rattle.layout.specs.Layout.{mappedPages}
+use Rattle.checks.specs.Checks.{sizeOk, machineOk, sectionTableOk, stringsOk, symbolTableOk, bytesOk, dataOk, relocationsOk, sectionsOk, sectionOk, relocationTotal, symbolFine, fineAt, allSymbols, nameOk, namesOk, sectionNameOk, placeWithin, owedNext, pagesOk}
 
 module _ (f : List ℕ) where
   pub size-whole : leb 20 (length f) ≡ true → leb (length f) 4194304 ≡ sizeOk f
@@ -141,6 +142,9 @@ module _ (f : List ℕ) (h : Header) where
   pub names-rest : (r s : Bool) → r ≡ allTo (sectionNameOk f h) (h .sections) → r ≡ true → s ≡ allSymbols nameOk f h → s ≡ namesOk f h
   unfolding namesOk
   names-rest r s q e p = rw (← q, e) p
+
+  pub pages-are : (n : ℕ) → n ≡ mappedPages f h → leb n 4096 ≡ pagesOk f h
+  pages-are n q = rw q
 
 pub ruleset whole-checks = (sections-bad, sections-sum, names-bad, names-rest)
 

@@ -18,3 +18,6 @@ MAX-PAGES = 4096
 
 abbrev pub MAX-EXTERNS : ℕ
 MAX-EXTERNS = 1024
+
+abbrev pub MAX-BASE : ℕ
+MAX-BASE = 0x7F000000

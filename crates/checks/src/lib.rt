@@ -42,6 +42,8 @@ pub const MAX_PAGES: u64 = 4096;
 
 pub const MAX_EXTERNS: usize = 1024;
 
+pub const MAX_BASE: u64 = 0x7F000000;
+
 // 1: the file has a header, and is not too large.
 pub fn size_ok(f: &[u8]) -> bool
     ensures { λ r. ⌜ r ≡ sizeOk (now (f .entry)) ⌝ }

@@ -4,10 +4,10 @@ use mathlib.Core.List.{List, [], _∷_}
 use Prim.Native.Nat.{ℕ, zero, suc, _+_, _*_, _/_, _≤_, _<_}
 use native.Mathlib.Omega.{arith}
 use lib.ListN.{length}
-use Rattle.le.specs.Le.{get, length-splice}
+use Rattle.le.specs.Le.{get}
 use Rattle.refusal.specs.Refusal.{unlessRefused}
 use Rattle.patch.specs.declared.answer.Patch.{Patch}
-use Rattle.patch.specs.Fixes.{fixed, fixedFrom}
+use Rattle.patch.specs.Fixes.{length-from}
 use Rattle.patch.specs.Patch.{Patches}
 use Rattle.demands.specs.Calls.{Call, patch, afterCall, afterCalls}
 use Rattle.demands.specs.Running.{callAt, callsTo, callsIn, Runs, runs-are, after-one-more}
@@ -33,11 +33,6 @@ module _ (base : ℕ) (marks fixes words image : List ℕ) where
   run-end k n now e q a b =
       let z : length words / 16 ≡ k = omega arith in
       runs-are base marks fixes (callsIn words) image now (rw z e)
-
-length-from : (base : ℕ) (fixes image : List ℕ) (p n : ℕ) → length (fixedFrom base fixes image p n) ≡ length image
-unfolding fixedFrom fixed
-length-from base fixes image p zero = refl
-length-from base fixes image p (suc n) = length-splice _ _ _ ∙ length-from base fixes image p n
 
 length-either : (code : ℕ) (new old : List ℕ) → length new ≡ length old → length (unlessRefused code new old) ≡ length old
 unfolding unlessRefused

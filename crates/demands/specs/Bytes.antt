@@ -1,21 +1,22 @@
 -- A byte of the image once fixups are applied: that of the latest which covers it, else what stood there.
-use mathlib.Core.Path.{_≡_, refl, sym, ap, subst, _∙_}
-use mathlib.Core.Bool.{Bool, true, false, _&&_}
-use mathlib.Core.List.{List, [], _∷_, _++_}
-use mathlib.Core.Logic.{_⊎_, inl, inr, ⊎-elim}
+use mathlib.Core.Path.{_≡_, refl, ap, _∙_}
+use mathlib.Core.Bool.{true, false}
+use mathlib.Core.List.{List, [], _∷_}
+use mathlib.Core.Logic.{_⊎_, ⊎-elim}
 use mathlib.Core.Option.{Option, none, some}
-use Prim.Native.Nat.{ℕ, zero, suc, _+_, _-_, _*_, _/_, _≤_, _<_}
+use Prim.Native.Nat.{ℕ, _+_, _-_, _*_, _/_, _≤_, _<_}
 use native.Mathlib.Omega.{arith}
 use lib.Dec.{leb, ltb}
 use lib.ListN.{length, getD}
-use borrow.Author.Tests.{leb-true, leb-false, ltb-true, ltb-false, le-leb, lt-leb, lt-ltb, le-ltb}
+use borrow.Author.Tests.{leb-true, ltb-true, le-leb, lt-ltb}
 use Rattle.util.specs.Pick.{pick, yes-no, le-or-lt, and-left, and-right}
 use Rattle.le.specs.Le.{le, splice, splice-in, splice-below, splice-above, length-le, length-splice}
 use Rattle.arch.specs.Page.{PAGE-SIZE}
+use Rattle.checks.specs.Limits.{MAX-PAGES, MAX-BASE}
 use Rattle.fixups.specs.declared.Fix.{Fix}
 use Rattle.fixups.specs.Value.{valueOf}
-use Rattle.patch.specs.Fixes.{placeAt, bitsAt, valueAt, widthOf, fixed}
-use Rattle.demands.specs.Origin.{Origin, fixupByte, orElse, fixupsOf, fixupAt, fixupPlace, fixupWidth, fixupValue, covers, latest, byteOf}
+use Rattle.patch.specs.Fixes.{widthOf, fixed}
+use Rattle.demands.specs.Origin.{fixupByte, orElse, fixupsOf, fixupAt, fixupPlace, covers, latest, byteOf}
 use Rattle.demands.specs.Counted.{pagesOf, fixesOf}
 use Rattle.demands.specs.Applying.{written, AllBelow}
 use Rattle.demands.specs.Mapped.{Placed, place-back, bits-back, value-back}
@@ -24,7 +25,7 @@ width-fits : (x : Fix) → (x .bits ≡ 32) ⊎ (x .bits ≡ 64) → widthOf (x 
 unfolding pick
 width-fits x b = ⊎-elim (λ n. rw n) (λ n. rw n) b
 
-module _ (f : List ℕ) (base : ℕ) (low : base ≤ 0x7F000000) (few : pagesOf f ≤ 4096) (placed : (k : ℕ) → k < length (fixupsOf f) → Placed f (fixupAt f k)) where
+module _ (f : List ℕ) (base : ℕ) (low : base ≤ MAX-BASE) (few : pagesOf f ≤ MAX-PAGES) (placed : (k : ℕ) → k < length (fixupsOf f) → Placed f (fixupAt f k)) where
   -- what fixup k puts at offset d
   abbrev pub puts : ℕ → ℕ → ℕ
   puts d k = byteOf f base (fixupByte k (base + d - fixupPlace f base k))

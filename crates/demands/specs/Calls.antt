@@ -29,9 +29,6 @@ applied count (c ∷ cs) = appliedBy count c ++ applied count cs
 
 -- ---- what patch's contract says of the same calls, one after another, each on the image that the one before left
 module _ (base : ℕ) (marks fixes : List ℕ) where
-  abbrev pub codeOf : List ℕ → Call → ℕ
-  codeOf image (patch number position) = patchCode (length image) marks base fixes number position
-
   unfoldable pub afterCall : List ℕ → Call → List ℕ
   afterCall image (patch number position) =
       patched (patchCode (length image) marks base fixes number position) base fixes image number position

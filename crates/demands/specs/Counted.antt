@@ -8,20 +8,27 @@ use Rattle.object.specs.Section.{relocationCount}
 use Rattle.layout.specs.Layout.{mappedPages, undefStart, startsTo}
 use Rattle.externs.specs.Externs.{externs}
 use Rattle.survey.specs.Survey.{outcomes}
+use Rattle.tables.specs.Sections.{sectionTable}
+use Rattle.tables.specs.Externs.{externTable}
 use Rattle.tables.specs.Relocations.{fixTable}
-use Rattle.image.specs.Laid.{laid}
+use Rattle.image.specs.Laid.{laidImage}
 use Rattle.image.specs.MarkWords.{markCount, markBytes}
 
 abbrev pub pagesOf : List ℕ → ℕ
 pagesOf f = mappedPages f (headerOf f)
 
+-- the laid image, over zero pages; the marks of its pages; the fix list at the base
 abbrev pub imageOf : List ℕ → ℕ → List ℕ
-imageOf f base =
-    laid f (headerOf f) (startsTo f (headerOf f) (headerOf f .sections)) (pagesOf f) base (undefStart f (headerOf f)) (length (externs f (headerOf f)))
-    (replicate (PAGE-SIZE * pagesOf f) 0)
+imageOf f base = laidImage f (headerOf f) base (length (externs f (headerOf f))) (replicate (PAGE-SIZE * pagesOf f) 0)
 
 abbrev pub marksOf : List ℕ → List ℕ
 marksOf f = markBytes (pagesOf f) (markCount (pagesOf f))
 
 abbrev pub fixesOf : List ℕ → ℕ → List ℕ
 fixesOf f base = fixTable base (outcomes f (headerOf f)) (relocationCount f (headerOf f)) (headerOf f .sections)
+
+abbrev pub sectionsOf : List ℕ → ℕ → List ℕ
+sectionsOf f base = sectionTable f (headerOf f) base (startsTo f (headerOf f) (headerOf f .sections)) (undefStart f (headerOf f))
+
+abbrev pub externsOf : List ℕ → ℕ → List ℕ
+externsOf f base = externTable f (headerOf f) base (undefStart f (headerOf f)) (externs f (headerOf f)) (length (externs f (headerOf f)))

@@ -1,14 +1,15 @@
 -- The request's first demand: every file that passes the checks is loaded whole, every other input gets the first refusal that applies, and then nothing has changed.
 use mathlib.Core.Path.{_≡_, refl, sym, ap, _∙_}
-use mathlib.Core.Bool.{Bool, true, false}
+use mathlib.Core.Bool.{true, false}
 use mathlib.Core.List.{List, [], _∷_, _++_}
-use mathlib.Core.Logic.{_⊎_, inl, inr, ⊎-elim}
-use Prim.Native.Nat.{ℕ, zero, suc}
+use mathlib.Core.Logic.{⊎-elim}
+use Prim.Native.Nat.{ℕ, suc}
 use native.Mathlib.Omega.{arith}
 use lib.Dec.{eqb, leb}
 use lib.ListN.{length}
 use Rattle.util.specs.Pick.{pick, yes-no}
 use Rattle.object.specs.Format.{headerOf}
+use Rattle.checks.specs.Limits.{MAX-EXTERNS}
 use Rattle.externs.specs.Externs.{externs}
 use Rattle.refusal.specs.Refusal.{STORAGE}
 use Rattle.survey.specs.declared.answer.Counts.{Counts}
@@ -17,7 +18,7 @@ use Rattle.survey.specs.declared.answer.Survey.the-variants.{Accepted, Refused}
 use Rattle.survey.specs.Survey.{Check, check, firstFailed, externChecks, targetChecks, tally, checks, counts, answerBy, surveyOf}
 use Rattle.survey.specs.SurveyLaws.{check-holds, checks-hold, ordered, ordered-rest, records-rest, tells-accepted, tells-refused}
 use Rattle.load.specs.Load.{Storage, baseOk, roomOk, stored, loadChecks, Loads}
-use Rattle.load.specs.LoadLaws.{LoadAccepts, load-accepts, LoadLeaves, load-leaves, load-refused}
+use Rattle.load.specs.LoadLaws.{load-refused}
 
 -- ---- the first of a list of checks that fails, and its number
 abbrev pub AllPass : List Check → Type 0
@@ -87,7 +88,7 @@ module _ (f : List ℕ) (base : ℕ) (s s′ : Storage) where
     names = ordered-rest f (headerOf f) late (told .0)
 
     targets : firstFailed (targetChecks (tally f (headerOf f))) ≡ 0
-    targets = checks-hold (leb (length (externs f (headerOf f))) 1024) 8 (targetChecks (tally f (headerOf f))) names
+    targets = checks-hold (leb (length (externs f (headerOf f))) MAX-EXTERNS) 8 (targetChecks (tally f (headerOf f))) names
 
     places : firstFailed place ≡ 0
     places = checks-hold (eqb (tally f (headerOf f) .refused) 0) 9 place targets
@@ -100,7 +101,7 @@ module _ (f : List ℕ) (base : ℕ) (s s′ : Storage) where
         rw allowed
         (records-rest f (headerOf f) (externChecks (length (externs f (headerOf f))) ++ (targetChecks (tally f (headerOf f)) ++ last)) o
         ∙ rw (
-          check-holds (leb (length (externs f (headerOf f))) 1024) 8 (targetChecks (tally f (headerOf f))) names,
+          check-holds (leb (length (externs f (headerOf f))) MAX-EXTERNS) 8 (targetChecks (tally f (headerOf f))) names,
           check-holds (eqb (tally f (headerOf f) .refused) 0) 9 place targets,
           check-holds (eqb (tally f (headerOf f) .outside) 0) 10 [] places,
           r,

@@ -1,6 +1,6 @@
 -- The request's third demand, one claim about any list of patch calls that follows an accepted load, and about the same load at any other allowed base.
-use mathlib.Core.Path.{_≡_, refl, sym, ap, subst, _∙_}
-use mathlib.Core.Bool.{Bool, true, false}
+use mathlib.Core.Path.{_≡_, refl, sym, ap, _∙_}
+use mathlib.Core.Bool.{true, false}
 use mathlib.Core.List.{List}
 use mathlib.Core.Logic.{⊎-elim}
 use mathlib.Core.Option.{Option, none, some}
@@ -9,17 +9,15 @@ use native.Mathlib.Omega.{arith}
 use lib.Dec.{eqb, leb}
 use lib.IntN.{pos}
 use lib.ListN.{length, getD, replicate, length-replicate}
-use borrow.Author.Tests.{leb-true, ltb-true}
-use Rattle.util.specs.Pick.{pick, and-left, and-right}
+use borrow.Author.Tests.{leb-true}
+use Rattle.util.specs.Pick.{pick, and-right}
 use Rattle.arch.specs.Page.{PAGE-SIZE}
 use Rattle.le.specs.Le.{get, le}
 use Rattle.object.specs.Format.{headerOf}
-use Rattle.object.specs.Section.{loaded, rangeLength}
-use Rattle.layout.specs.Layout.{startAt, undefStart, startsTo}
+use Rattle.layout.specs.Layout.{undefStart, startsTo}
 use Rattle.layout.specs.LayoutLaws.{ranges-share-none, undef-behind, undef-fits}
-use Rattle.fixups.specs.declared.Fix.{Fix}
 use Rattle.fixups.specs.Signed.{signed, slot-keeps}
-use Rattle.fixups.specs.Value.{valueOf, isRelative}
+use Rattle.fixups.specs.Value.{isRelative}
 use Rattle.fixups.specs.ValueLaws.{Exact, relative-stays, other-rises, no-bit-lost}
 use Rattle.survey.specs.declared.answer.Counts.{Counts}
 use Rattle.survey.specs.declared.answer.Survey.the-variants.{Accepted}
@@ -30,14 +28,15 @@ use Rattle.image.specs.LaidLaws.{length-laid}
 use Rattle.patch.specs.declared.answer.Patch.{Patch}
 use Rattle.patch.specs.Fixes.{fixCount, placeAt, bitsAt, valueAt, widthOf}
 use Rattle.patch.specs.Patch.{patchCode}
-use Rattle.load.specs.Load.{MAX-BASE, baseOk}
+use Rattle.checks.specs.Limits.{MAX-PAGES, MAX-BASE}
+use Rattle.load.specs.Load.{baseOk}
 use Rattle.demands.specs.Calls.{Call, applied, afterCalls, answersTo}
-use Rattle.demands.specs.Origin.{Origin, fixupsOf, fixupAt, noFixup, slotsOf, fixupPlace, fixupWidth, fixupValue, undefAddress, slotValue, sectionAddress, inSection, latest, laidOrigin, originBy, origin, byteOf}
+use Rattle.demands.specs.Origin.{fixupsOf, fixupAt, noFixup, slotsOf, fixupPlace, fixupWidth, fixupValue, undefAddress, slotValue, inSection, latest, originBy, origin, byteOf}
 use Rattle.demands.specs.Counted.{pagesOf, imageOf, marksOf, fixesOf}
 use Rattle.demands.specs.Applying.{written, plainCode, plainAnswers, applied-below, calls-write, answers-plain, length-written}
 use Rattle.demands.specs.Mapped.{Placed, fixes-counted, place-back, bits-back, value-back, only-position}
 use Rattle.demands.specs.Bytes.{seen, written-byte}
-use Rattle.demands.specs.Laying.{laid-byte}
+use Rattle.demands.specs.Laying.{in-range, laid-byte}
 use Rattle.demands.specs.Moving.{origin-same}
 
 -- the image, and the answers, once the calls are made on what the load of f at the base leaves
@@ -87,12 +86,12 @@ pub record Demand3 (f : List ℕ) (b₁ b₂ : ℕ) (calls : List Call) : Type 0
   pub both : AtBoth f b₁ b₂ calls
 
 -- ---- its only hypotheses: the file is accepted, the bases are allowed
-low : (base : ℕ) → baseOk base ≡ true → base ≤ 0x7F000000
+low : (base : ℕ) → baseOk base ≡ true → base ≤ MAX-BASE
 unfolding baseOk
 low base e = leb-true base MAX-BASE (and-right (eqb (base % PAGE-SIZE) 0) (leb base MAX-BASE) e)
 
 module _ (f : List ℕ) (c : Counts) (accepted : surveyOf f ≡ Accepted c) where
-  few : pagesOf f ≤ 4096
+  few : pagesOf f ≤ MAX-PAGES
   few = pages-few f c accepted
 
   exact : (k : ℕ) → k < length (fixupsOf f) → Exact (fixupAt f k)
@@ -130,25 +129,10 @@ module _ (f : List ℕ) (c : Counts) (accepted : surveyOf f ≡ Accepted c) wher
     unfolding pick
     width-is k l = ⊎-elim (λ n. rw n) (λ n. rw n) (exact k l .bits)
 
-    record Holds (a i : ℕ) : Type 0 where
-      loads : loaded f (headerOf f) i ≡ true
-      from : sectionAddress f base i ≤ a
-      to : a < sectionAddress f base i + rangeLength f (headerOf f) i
-
-    holds : (a i : ℕ) → inSection f base a i ≡ true → Holds a i
-    unfolding inSection
-    holds a i e =
-        let r = and-right (loaded f (headerOf f) i) _ e in
-        record {
-          loads = and-left (loaded f (headerOf f) i) _ e;
-          from = leb-true _ _ (and-left _ _ r);
-          to = ltb-true _ _ (and-right (leb (sectionAddress f base i) a) _ r);
-        }
-
     apart-at : (i j a : ℕ) → inSection f base a i ≡ true → inSection f base a j ≡ true → i ≡ j
     apart-at i j a x y =
-        let p = holds a i x in
-        let q = holds a j y in
+        let p = in-range f base a i x in
+        let q = in-range f base a j y in
         let p₁ = p .from in
         let p₂ = p .to in
         let q₁ = q .from in
@@ -157,7 +141,7 @@ module _ (f : List ℕ) (c : Counts) (accepted : surveyOf f ≡ Accepted c) wher
 
     behind-at : (i a : ℕ) → i < headerOf f .sections → inSection f base a i ≡ true → a < undefAddress f base
     behind-at i a l x =
-        let p = holds a i x in
+        let p = in-range f base a i x in
         let p₂ = p .to in
         let u = undef-behind f (headerOf f) i (p .loads) l in
         omega arith

@@ -1,15 +1,15 @@
 -- A byte of the laid image: its slot's, else its section's file byte, else zero.
-use mathlib.Core.Path.{_≡_, refl, sym, ap, subst, _∙_}
+use mathlib.Core.Path.{_≡_, subst}
 use mathlib.Core.Bool.{Bool, true, false, _&&_}
 use mathlib.Core.List.{List}
-use mathlib.Core.Logic.{_⊎_, inl, inr, ⊎-elim}
+use mathlib.Core.Logic.{⊎-elim}
 use mathlib.Core.Option.{Option, none, some}
 use Prim.Native.Nat.{ℕ, zero, suc, _+_, _-_, _*_, _/_, _%_, _≤_, _<_}
 use native.Mathlib.Omega.{arith}
 use lib.Dec.{leb, ltb}
 use lib.ListN.{length, getD}
 use borrow.Author.Tests.{leb-true, ltb-true, ltb-false, le-leb, lt-ltb}
-use Rattle.util.specs.Pick.{pick, yes-no, le-or-lt, and-left, and-right}
+use Rattle.util.specs.Pick.{pick, yes-no, le-or-lt, and-left, and-right, not-both}
 use Rattle.arch.specs.Page.{PAGE-SIZE}
 use Rattle.le.specs.Le.{le}
 use Rattle.object.specs.declared.Header.{Header}
@@ -17,8 +17,11 @@ use Rattle.object.specs.Format.{headerOf}
 use Rattle.object.specs.Section.{loaded, fileStart, fileEnd, rangeLength}
 use Rattle.layout.specs.Layout.{startAt, undefStart}
 use Rattle.layout.specs.LayoutLaws.{ranges-share-none}
-use Rattle.image.specs.LaidLaws.{laidImage, file-range, laid-slot, laid-file, laid-zero}
-use Rattle.demands.specs.Origin.{Origin, slotByte, fileByte, zeroByte, orElse, firstBelow, slotsOf, undefAddress, inSlots, sectionAddress, inSection, fileOrigin, laidOrigin, byteOf}
+use Rattle.object.specs.SectionLaws.{file-range}
+use Rattle.checks.specs.Limits.{MAX-PAGES, MAX-EXTERNS}
+use Rattle.image.specs.Laid.{laidImage}
+use Rattle.image.specs.LaidLaws.{laid-slot, laid-file, laid-zero}
+use Rattle.demands.specs.Origin.{slotByte, orElse, firstBelow, slotsOf, undefAddress, inSlots, sectionAddress, inSection, fileOrigin, laidOrigin, byteOf}
 use Rattle.demands.specs.Counted.{pagesOf}
 
 -- ---- the first number that passes
@@ -40,10 +43,28 @@ module _ (p : ℕ → Bool) where
   first-is zero = λ i l. absurd (omega arith)
   first-is (suc n) = first-more n (firstBelow p n) (first-is n)
 
-not-both : {A : Type 0} (b : Bool) → b ≡ true → b ≡ false → A
-not-both b e d = absurd (let z : true ≡ false = sym e ∙ d in let w : _≡_ {A = ℕ} 0 1 = cc in omega arith)
+-- ---- a section's range holds the address
+pub record InRange (f : List ℕ) (base a i : ℕ) : Type 0 where
+  pub loads : loaded f (headerOf f) i ≡ true
+  pub from : sectionAddress f base i ≤ a
+  pub to : a < sectionAddress f base i + rangeLength f (headerOf f) i
 
-module _ (f : List ℕ) (base : ℕ) (image : List ℕ) (few : pagesOf f ≤ 4096) (names : slotsOf f ≤ 1024) (long : PAGE-SIZE * pagesOf f ≤ length image) where
+pub in-range : (f : List ℕ) (base a i : ℕ) → inSection f base a i ≡ true → InRange f base a i
+unfolding inSection
+in-range f base a i e =
+    let r = and-right (loaded f (headerOf f) i) _ e in
+    record {
+      loads = and-left (loaded f (headerOf f) i) _ e;
+      from = leb-true _ _ (and-left _ _ r);
+      to = ltb-true _ _ (and-right (leb (sectionAddress f base i) a) _ r);
+    }
+
+range-in : (f : List ℕ) (base a i : ℕ) → InRange f base a i → inSection f base a i ≡ true
+unfolding inSection
+range-in f base a i t =
+    rw (t .loads, le-leb (sectionAddress f base i) a (t .from), lt-ltb a (sectionAddress f base i + rangeLength f (headerOf f) i) (t .to))
+
+module _ (f : List ℕ) (base : ℕ) (image : List ℕ) (few : pagesOf f ≤ MAX-PAGES) (names : slotsOf f ≤ MAX-EXTERNS) (long : PAGE-SIZE * pagesOf f ≤ length image) where
   abbrev h : Header
   h = headerOf f
 
@@ -51,27 +72,6 @@ module _ (f : List ℕ) (base : ℕ) (image : List ℕ) (few : pagesOf f ≤ 409
   now = laidImage f h base (slotsOf f) image
 
   module _ (d : ℕ) (mapped : d < PAGE-SIZE * pagesOf f) where
-    -- ---- a section's range holds it
-    record Holds (i : ℕ) : Type 0 where
-      loads : loaded f h i ≡ true
-      from : startAt f h i ≤ d
-      to : d < startAt f h i + rangeLength f h i
-
-    holds : (i : ℕ) → inSection f base (base + d) i ≡ true → Holds i
-    unfolding inSection
-    holds i e =
-        let r = and-right (loaded f h i) _ e in
-        let a : base + startAt f h i ≤ base + d = leb-true _ _ (and-left _ _ r) in
-        let b : base + d < base + startAt f h i + rangeLength f h i = ltb-true _ _ (and-right (leb (base + startAt f h i) (base + d)) _ r) in
-        record { loads = and-left (loaded f h i) _ e; from = omega arith; to = omega arith }
-
-    held : (i : ℕ) → Holds i → inSection f base (base + d) i ≡ true
-    unfolding inSection
-    held i t =
-        let a = t .from in
-        let b = t .to in
-        rw (t .loads, le-leb (base + startAt f h i) (base + d) (omega arith), lt-ltb (base + d) (base + startAt f h i + rangeLength f h i) (omega arith))
-
     -- ---- slots
     in-slot : inSlots f base (base + d) ≡ true → getD now d 0 ≡ byteOf f base (slotByte ((base + d - undefAddress f base) / 4) ((base + d - undefAddress f base) % 4))
     unfolding inSlots byteOf
@@ -91,7 +91,7 @@ module _ (f : List ℕ) (base : ℕ) (image : List ℕ) (few : pagesOf f ≤ 409
         not-both (leb (base + undefStart f h) (base + d) && ltb (base + d) (base + undefStart f h + 4 * slotsOf f)) (rw (p, q)) n
 
     -- ---- file bytes and zeros
-    in-file : (i : ℕ) → i < h .sections → Holds i → ltb (base + d - sectionAddress f base i) (fileEnd f h i - fileStart f h i) ≡ true
+    in-file : (i : ℕ) → i < h .sections → InRange f base (base + d) i → ltb (base + d - sectionAddress f base i) (fileEnd f h i - fileStart f h i) ≡ true
         → getD now d 0 ≡ byteOf f base (fileOrigin f base (base + d) (some i))
     unfolding fileOrigin byteOf pick
     in-file i l t e =
@@ -102,7 +102,7 @@ module _ (f : List ℕ) (base : ℕ) (image : List ℕ) (few : pagesOf f ≤ 409
         let r = laid-file f h base (slotsOf f) image few names long i (d - startAt f h i) l (t .loads) (omega arith) in
         rw (e, q) (subst (λ (z : ℕ). getD now z 0 ≡ getD f (fileStart f h i + (d - startAt f h i)) 0) w r)
 
-    past-file : inSlots f base (base + d) ≡ false → (i : ℕ) → Holds i → ltb (base + d - sectionAddress f base i) (fileEnd f h i - fileStart f h i) ≡ false
+    past-file : inSlots f base (base + d) ≡ false → (i : ℕ) → InRange f base (base + d) i → ltb (base + d - sectionAddress f base i) (fileEnd f h i - fileStart f h i) ≡ false
         → getD now d 0 ≡ byteOf f base (fileOrigin f base (base + d) (some i))
     unfolding fileOrigin byteOf pick
     past-file n i t e =
@@ -112,7 +112,8 @@ module _ (f : List ℕ) (base : ℕ) (image : List ℕ) (few : pagesOf f ≤ 409
         (laid-zero f h base (slotsOf f) image few names long d mapped (no-slot n)
         (λ j l u x y.
         let r = file-range f h j in
-        let same : j ≡ i = ranges-share-none f h j i d u (t .loads) x (omega arith) a (t .to) in
+        let o = t .to in
+        let same : j ≡ i = ranges-share-none f h j i d u (t .loads) x (omega arith) (omega arith) (omega arith) in
         let y′ : d < startAt f h i + (fileEnd f h i - fileStart f h i) = rw same at y in
         omega arith))
 
@@ -120,9 +121,9 @@ module _ (f : List ℕ) (base : ℕ) (image : List ℕ) (few : pagesOf f ≤ 409
     unfolding fileOrigin byteOf
     file-byte n none first =
         laid-zero f h base (slotsOf f) image few names long d mapped (no-slot n)
-        (λ i l t a b. let r = file-range f h i in not-both (inSection f base (base + d) i) (held i (record { loads = t; from = a; to = omega arith })) (first i l))
+        (λ i l t a b. let r = file-range f h i in not-both (inSection f base (base + d) i) (range-in f base (base + d) i (record { loads = t; from = omega arith; to = omega arith })) (first i l))
     file-byte n (some i) first =
-        ⊎-elim (λ e. in-file i (first .0) (holds i (first .1)) e) (λ e. past-file n i (holds i (first .1)) e)
+        ⊎-elim (λ e. in-file i (first .0) (in-range f base (base + d) i (first .1)) e) (λ e. past-file n i (in-range f base (base + d) i (first .1)) e)
         (yes-no (ltb (base + d - sectionAddress f base i) (fileEnd f h i - fileStart f h i)))
 
     pub laid-byte : getD now d 0 ≡ byteOf f base (laidOrigin f base (base + d))

@@ -12,3 +12,4 @@ pub mod Running
 pub mod Table
 pub mod Demand1
 pub mod Demand2
+pub mod Examples

@@ -1,29 +1,36 @@
 -- What load's contract leaves is what the demands speak of: the counted parts follow from the file and the base, whatever the storage held before.
-use mathlib.Core.Path.{_≡_, refl, sym, ap, subst, _∙_}
+use mathlib.Core.Path.{_≡_, sym, _∙_}
 use mathlib.Core.Bool.{true}
 use mathlib.Core.List.{List}
-use Prim.Native.Nat.{ℕ, _+_, _*_, _≤_, _<_}
+use Prim.Native.Nat.{ℕ, _*_, _≤_, _<_}
 use native.Mathlib.Omega.{arith}
 use native.Mathlib.Nat.{zero-add}
-use lib.ListN.{length, getD, replicate, length-replicate}
+use lib.ListN.{length, replicate, length-replicate}
 use lib.Seq.{ext-getD}
 use Rattle.arch.specs.Page.{PAGE-SIZE}
 use Rattle.le.specs.Le.{part, part-at, length-part}
 use Rattle.object.specs.Format.{headerOf}
-use Rattle.layout.specs.Layout.{startsTo, undefStart, mappedPages}
+use Rattle.layout.specs.Layout.{startsTo, undefStart}
+use Rattle.checks.specs.Limits.{MAX-PAGES, MAX-EXTERNS}
+use Rattle.tables.specs.Relocations.{FIXUP-BYTES}
+use Rattle.tables.specs.Externs.{EXTERN-BYTES}
+use Rattle.tables.specs.Sections.{SECTION-BYTES}
 use Rattle.survey.specs.declared.answer.Counts.{Counts}
 use Rattle.survey.specs.declared.answer.Survey.the-variants.{Accepted}
 use Rattle.survey.specs.Survey.{surveyOf}
-use Rattle.image.specs.MarkWords.{markCount, markBytes}
-use Rattle.image.specs.LaidLaws.{laidImage, length-laid}
+use Rattle.image.specs.MarkWords.{markCount}
+use Rattle.image.specs.Laid.{laidImage}
+use Rattle.image.specs.LaidLaws.{length-laid}
 use Rattle.load.specs.Load.{Storage, baseOk, Loads}
-use Rattle.load.specs.LoadLaws.{LoadAccepts, load-accepts, LoadLeaves, load-leaves, Rooms, rooms, pages-counted}
-use Rattle.demands.specs.Origin.{slotsOf, laidOrigin, byteOf}
-use Rattle.demands.specs.Counted.{pagesOf, imageOf, marksOf, fixesOf}
+use Rattle.load.specs.LoadLaws.{load-accepts, load-leaves, rooms, pages-counted}
+use Rattle.demands.specs.Origin.{slotsOf}
+use Rattle.demands.specs.Calls.{Call}
+use Rattle.demands.specs.Counted.{pagesOf, imageOf, marksOf, fixesOf, sectionsOf, externsOf}
+use Rattle.demands.specs.Demand3.{Demand3, demand-3}
 use Rattle.demands.specs.Laying.{laid-byte}
 
 -- the laid bytes hang on nothing that stood in the storage
-module _ (f : List ℕ) (base : ℕ) (image : List ℕ) (few : pagesOf f ≤ 4096) (names : slotsOf f ≤ 1024) (room : PAGE-SIZE * pagesOf f ≤ length image) where
+module _ (f : List ℕ) (base : ℕ) (image : List ℕ) (few : pagesOf f ≤ MAX-PAGES) (names : slotsOf f ≤ MAX-EXTERNS) (room : PAGE-SIZE * pagesOf f ≤ length image) where
   zeros : length {A = ℕ} (replicate (PAGE-SIZE * pagesOf f) 0) ≡ PAGE-SIZE * pagesOf f
   zeros = length-replicate {A = ℕ} (PAGE-SIZE * pagesOf f) 0
 
@@ -49,7 +56,10 @@ pub record Lends (f : List ℕ) (base : ℕ) (s′ : Storage) (c : Counts) : Typ
   pub allowed : baseOk base ≡ true
   pub image : part (s′ .image) 0 (PAGE-SIZE * c .pages) ≡ imageOf f base
   pub marks : part (s′ .marks) 0 (8 * markCount (c .pages)) ≡ marksOf f
-  pub fixes : part (s′ .fixups) 0 (24 * c .fixups) ≡ fixesOf f base
+  pub fixes : part (s′ .fixups) 0 (FIXUP-BYTES * c .fixups) ≡ fixesOf f base
+  -- and those that say where the parts lie: the loaded sections and UNDEF, the names' slots
+  pub sections : part (s′ .sections) 0 (SECTION-BYTES * c .sections) ≡ sectionsOf f base
+  pub externs : part (s′ .externs) 0 (EXTERN-BYTES * c .externs) ≡ externsOf f base
 
 pub load-lends : (f : List ℕ) (base : ℕ) (s s′ : Storage) (c : Counts) → Loads f base s s′ (Accepted c) → Lends f base s′ c
 load-lends f base s s′ c loads =
@@ -63,4 +73,13 @@ load-lends f base s s′ c loads =
       image = rw (l .image, p) (laid-counted f base (s .image) (a .pages) (a .names) r);
       marks = l .marks .counted ∙ rw p;
       fixes = l .fixups .counted;
+      sections = l .sections .counted;
+      externs = l .externs .counted;
     }
+
+-- ---- demand 3 with load's own accepted answer for its hypothesis, and the same load at any other allowed base
+pub load-demand-3 : (f : List ℕ) (base : ℕ) (s s′ : Storage) (c : Counts) → Loads f base s s′ (Accepted c)
+    → (b₂ : ℕ) → baseOk b₂ ≡ true → (calls : List Call) → Demand3 f base b₂ calls
+load-demand-3 f base s s′ c loads b₂ ok calls =
+    let l = load-lends f base s s′ c loads in
+    demand-3 f c (l .accepted) base b₂ (l .allowed) ok calls

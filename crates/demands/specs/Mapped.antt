@@ -1,31 +1,31 @@
 -- After an accepted load no patch call is refused but for its position (01, "Patch"): the fix list reads back as the load's fixups, and each of them is mapped.
-use mathlib.Core.Path.{_≡_, refl, sym, ap, subst, _∙_}
-use mathlib.Core.Bool.{Bool, true, false, _&&_, _||_}
-use mathlib.Core.List.{List, [], _∷_, _++_, append-nil}
-use mathlib.Core.Logic.{_⊎_, inl, inr, ⊎-elim}
-use Prim.Native.Nat.{ℕ, zero, suc, _+_, _-_, _*_, _/_, _%_, _^_, _≤_, _<_, min, max}
+use mathlib.Core.Path.{_≡_, ap, subst, _∙_}
+use mathlib.Core.Bool.{true}
+use mathlib.Core.List.{List, _++_, append-nil}
+use mathlib.Core.Logic.{_⊎_, ⊎-elim}
+use Prim.Native.Nat.{ℕ, _+_, _-_, _*_, _/_, _%_, _^_, _≤_, _<_, max}
 use native.Mathlib.Omega.{arith}
-use lib.Dec.{leb, eqb}
-use lib.ListN.{length, getD}
+use lib.Dec.{leb}
+use lib.ListN.{length}
 use lib.Seq.{drop-length}
 use borrow.Author.Tests.{le-leb, leb-true}
-use Rattle.util.specs.Pick.{pick, and-both, yes-no}
-use Rattle.util.specs.Prefix.{allTo, all-of}
+use Rattle.util.specs.Pick.{pick, yes-no}
+use Rattle.util.specs.Prefix.{all-of}
 use Rattle.le.specs.Le.{splice, splice-front}
 use Rattle.arch.specs.Page.{PAGE-SIZE}
-use Rattle.refusal.specs.Refusal.{POSITION}
 use Rattle.pagemap.specs.Pages.{storageOk, spanMapped}
 use Rattle.aspace.specs.Space.{reached, spanAt}
 use Rattle.object.specs.Format.{headerOf}
 use Rattle.object.specs.Section.{relocationCount}
+use Rattle.checks.specs.Limits.{MAX-PAGES, MAX-BASE}
 use Rattle.fixups.specs.declared.Fix.{Fix}
 use Rattle.fixups.specs.Value.{valueOf}
 use Rattle.survey.specs.Survey.{outcomes}
-use Rattle.tables.specs.Relocations.{fixTable}
+use Rattle.tables.specs.Relocations.{FIXUP-BYTES}
 use Rattle.tables.specs.TableLaws.{length-fixes, fix-place, fix-bits, fix-value}
-use Rattle.image.specs.MarkWords.{markBytes, markCount}
-use Rattle.image.specs.MarkLaws.{length-marks, marksPut, mark-spans, mark-storage}
-use Rattle.patch.specs.Fixes.{fixCount, placeAt, bitsAt, valueAt, widthOf, knownBits, fixOk}
+use Rattle.image.specs.MarkWords.{markCount}
+use Rattle.image.specs.MarkLaws.{length-marks, mark-spans, mark-storage}
+use Rattle.patch.specs.Fixes.{fixCount, placeAt, bitsAt, valueAt, fixOk}
 use Rattle.patch.specs.Patch.{portion, portionOk, patchCode}
 use Rattle.demands.specs.Origin.{fixupsOf, fixupAt, noFixup}
 use Rattle.demands.specs.Counted.{pagesOf, marksOf, fixesOf}
@@ -42,14 +42,14 @@ pub record Placed (f : List ℕ) (x : Fix) : Type 0 where
 
 pub fixes-counted : (f : List ℕ) (base : ℕ) → fixCount (fixesOf f base) ≡ length (fixupsOf f)
 fixes-counted f base =
-    let e : length (fixesOf f base) ≡ 24 * length (fixupsOf f) = length-fixes base (outcomes f (headerOf f)) (relocationCount f (headerOf f)) (headerOf f .sections) in
+    let e : length (fixesOf f base) ≡ FIXUP-BYTES * length (fixupsOf f) = length-fixes base (outcomes f (headerOf f)) (relocationCount f (headerOf f)) (headerOf f .sections) in
     omega arith
 
-module _ (f : List ℕ) (base : ℕ) (low : base ≤ 0x7F000000) (few : pagesOf f ≤ 4096) (placed : (k : ℕ) → k < length (fixupsOf f) → Placed f (fixupAt f k)) where
+module _ (f : List ℕ) (base : ℕ) (low : base ≤ MAX-BASE) (few : pagesOf f ≤ MAX-PAGES) (placed : (k : ℕ) → k < length (fixupsOf f) → Placed f (fixupAt f k)) where
   module _ (k : ℕ) (inside : k < length (fixupsOf f)) where
-    room : 24 * length (fixupsOf f) ≤ length (fixesOf f base)
+    room : FIXUP-BYTES * length (fixupsOf f) ≤ length (fixesOf f base)
     room =
-        let e : length (fixesOf f base) ≡ 24 * length (fixupsOf f) = length-fixes base (outcomes f (headerOf f)) (relocationCount f (headerOf f)) (headerOf f .sections) in
+        let e : length (fixesOf f base) ≡ FIXUP-BYTES * length (fixupsOf f) = length-fixes base (outcomes f (headerOf f)) (relocationCount f (headerOf f)) (headerOf f .sections) in
         omega arith
 
     pub place-fits : fixupAt f k .place + fixupAt f k .bits / 8 ≤ 2 ^ 24

@@ -1,21 +1,16 @@
 -- Another base: what lies at the same distance from it has the same origin.
-use mathlib.Core.Path.{_≡_, refl, sym, ap, fun-ext, _∙_}
-use mathlib.Core.Bool.{Bool, true, false, _&&_}
+use mathlib.Core.Path.{_≡_, refl, ap, fun-ext, _∙_}
 use mathlib.Core.List.{List, [], _∷_}
 use mathlib.Core.Option.{Option, none, some}
-use Prim.Native.Nat.{ℕ, zero, suc, _+_, _-_, _*_, _/_, _%_, _≤_, _<_}
+use Prim.Native.Nat.{ℕ, _+_, _-_, _*_}
 use native.Mathlib.Omega.{arith}
 use lib.Dec.{leb, ltb}
-use borrow.Author.Tests.{lt-ltb, ltb-true}
-use Rattle.util.specs.Pick.{pick, leb-same, both-ways}
+use Rattle.util.specs.Pick.{leb-same, ltb-same}
 use Rattle.object.specs.declared.Header.{Header}
 use Rattle.object.specs.Format.{headerOf}
-use Rattle.object.specs.Section.{loaded, fileStart, fileEnd, rangeLength}
+use Rattle.object.specs.Section.{rangeLength}
 use Rattle.layout.specs.Layout.{startAt, undefStart}
-use Rattle.demands.specs.Origin.{Origin, fixupByte, slotByte, fileByte, zeroByte, orElse, firstBelow, fixupAt, fixupPlace, fixupWidth, slotsOf, covers, latest, undefAddress, inSlots, slotValue, sectionAddress, inSection, fileOrigin, laidOrigin, originBy, origin}
-
-ltb-same : (a b c d : ℕ) → (a < b → c < d) → (c < d → a < b) → ltb a b ≡ ltb c d
-ltb-same a b c d x y = both-ways (ltb a b) (ltb c d) (λ e. lt-ltb c d (x (ltb-true a b e))) (λ e. lt-ltb a b (y (ltb-true c d e)))
+use Rattle.demands.specs.Origin.{firstBelow, fixupAt, fixupWidth, slotsOf, covers, latest, inSlots, inSection, fileOrigin, laidOrigin, originBy, origin}
 
 module _ (f : List ℕ) (b₁ b₂ d : ℕ) where
   abbrev h : Header

@@ -7,14 +7,12 @@ use lib.Dec.{leb, ltb}
 use lib.ListN.{length, getD}
 use Rattle.util.specs.Pick.{pick}
 use Rattle.le.specs.Le.{le}
-use Rattle.object.specs.declared.Header.{Header}
 use Rattle.object.specs.declared.RelocationKind.the-variants.{Unknown}
 use Rattle.object.specs.Format.{headerOf}
 use Rattle.object.specs.Section.{loaded, fileStart, fileEnd, rangeLength, relocationCount}
-use Rattle.layout.specs.Layout.{startAt, undefStart}
+use Rattle.layout.specs.Layout.{SLOT-SIZE, startAt, undefStart}
 use Rattle.externs.specs.Externs.{externs}
 use Rattle.fixups.specs.declared.Fix.{Fix}
-use Rattle.fixups.specs.Target.{SLOT-SIZE}
 use Rattle.fixups.specs.Value.{valueOf}
 use Rattle.fixups.specs.Lists.{fixList}
 use Rattle.survey.specs.Survey.{outcomes}

@@ -1,5 +1,5 @@
 -- A list of calls in lent words, run by the program.
-use mathlib.Core.Path.{_≡_, refl, sym, ap, _∙_}
+use mathlib.Core.Path.{_≡_, refl, ap, _∙_}
 use mathlib.Core.Bool.{true}
 use mathlib.Core.List.{List, [], _∷_, _++_}
 use Prim.Native.Nat.{ℕ, zero, suc, _+_, _*_, _/_, _<_}
@@ -14,7 +14,7 @@ use Rattle.load.specs.Load.{baseOk}
 use Rattle.demands.specs.Calls.{Call, patch, afterCall, afterCalls}
 use Rattle.demands.specs.Origin.{origin, byteOf}
 use Rattle.demands.specs.Counted.{pagesOf, imageOf, marksOf, fixesOf}
-use Rattle.demands.specs.Demand3.{imageAfter, appliedTo, Demand3, demand-3}
+use Rattle.demands.specs.Demand3.{appliedTo, demand-3}
 
 -- a call is two words: how many fixups, and from which position
 abbrev pub CALL-BYTES : ℕ

@@ -28,16 +28,16 @@ use Rattle.layout.specs.Home as homing
 use Rattle.layout.specs.Layout as laying
 use Rattle.util.specs.Align.{roundUp}
 use Rattle.util.specs.Pick.{pick}
-use Rattle.util.specs.Prefix.{allTo, anyTo, sumTo, countTo}
+use Rattle.util.specs.Prefix.{allTo, anyTo, sumTo, countTo, listTo}
 use Rattle.arch.specs.Machine.{archOf}
-use Rattle.le.specs.Le.{get, le, splice, part}
+use Rattle.le.specs.Le.{get, le, part}
 use Rattle.object.specs.Format.{headerOf, stringLength}
 use Rattle.object.specs.Relocation.{type32, type64, typeOf}
 use Rattle.object.specs.Section.{loadedBy, alignOf, permissionsBy, fileStart, fileEnd, rangeLength, extended, relocationRecords, relocationCount, relocationStart}
-use Rattle.object.specs.Symbol.{isFunction, codeOrData, staticKind, kindBy, zeroPlace, placeBy, listedBy, owed, primary, primaries}
+use Rattle.object.specs.Symbol.{isFunction, codeOrData, staticKind, kindBy, zeroPlace, placeBy, listedBy, owed, primary}
 use Rattle.names.specs.Bytes.{run, goodSectionName, goodSymbolName, decimalTo, compareBytes, sameBytes}
 use Rattle.names.specs.Name.{nameBytes, longRun, symbolRun, slashRun, sectionRun, checked}
-use Rattle.layout.specs.Home.{firstIn, isHome, isNamed, homeStart, homeRecord, homeCell, homesTo, recordsTo}
+use Rattle.layout.specs.Home.{firstIn, isHome, isNamed, homeStart, homeRecord, homeCell, recordsTo}
 use Rattle.layout.specs.Layout.{nextStart, startAt, nextRecord, startsTo}
 use Rattle.checks.specs.Checks.{sizeOk, sectionTableOk, stringsOk, symbolTableOk, bytesOk, dataOk, relocationsOk, sectionsOk, symbolFine, fineAt, namesOk, owedNext}
 use Rattle.externs.specs.Externs.{insertName, externRecords, externsTo}
@@ -136,13 +136,13 @@ pub record Table : Type 0 where
   pub past-the-end : surveyOf (smallWith 12285) ≡ Refused 11
 
 pub table : Table
-unfolding roundUp pick allTo anyTo sumTo countTo archOf get le part headerOf stringLength type32 type64 typeOf loadedBy alignOf permissionsBy fileStart fileEnd
+unfolding roundUp pick allTo anyTo sumTo countTo listTo archOf get le part headerOf stringLength type32 type64 typeOf loadedBy alignOf permissionsBy fileStart fileEnd
     rangeLength extended relocationRecords relocationCount relocationStart isFunction codeOrData staticKind kindBy zeroPlace placeBy listedBy primary
-    primaries run goodSectionName goodSymbolName decimalTo compareBytes sameBytes nameBytes longRun symbolRun slashRun sectionRun checked firstIn isHome
-    isNamed homeStart homeCell homesTo nextStart startAt nextRecord sizeOk sectionTableOk stringsOk symbolTableOk bytesOk dataOk relocationsOk sectionsOk
+    run goodSectionName goodSymbolName decimalTo compareBytes sameBytes nameBytes longRun symbolRun slashRun sectionRun checked firstIn isHome
+    isNamed homeStart homeCell nextStart startAt nextRecord sizeOk sectionTableOk stringsOk symbolTableOk bytesOk dataOk relocationsOk sectionsOk
     symbolFine fineAt namesOk insertName externRecords externsTo putsBy puts slotFrom sectionsTo fixAtRecord skipAtRecord byKind resolved bySymbol outcome
     passes tallyOf homeTarget slotTarget namedTarget labelTarget dataTarget sectionTarget targetBy valueOf cellOf listed firstFailed countsBy answerBy
-    lists.recordsTo tallies.inSection objects.owed checking.owedNext homing.recordsTo homing.homeRecord laying.startsTo sectionWords symbolWords
+    lists.recordsTo tallies.inSection objects.owed checking.owedNext homing.homeRecord sectionWords symbolWords
     externWords fixWords baseOk
 table =
     record {
@@ -177,13 +177,13 @@ small-demand-3 calls = demand-3 smallObject smallCounts (table .small) 0 0x7F000
 
 -- patched fully at 0x20000000, the first byte of its call's field is the value's lowest
 pub small-patched : getD (imageAfter smallObject 0x20000000 (patch 1 0 ∷ [])) 1 0 ≡ 0xFB
-unfolding roundUp pick allTo anyTo sumTo countTo archOf get le part headerOf stringLength type32 type64 typeOf loadedBy alignOf permissionsBy fileStart fileEnd
+unfolding roundUp pick allTo anyTo sumTo countTo listTo archOf get le part headerOf stringLength type32 type64 typeOf loadedBy alignOf permissionsBy fileStart fileEnd
     rangeLength extended relocationRecords relocationCount relocationStart isFunction codeOrData staticKind kindBy zeroPlace placeBy listedBy primary
-    primaries run goodSectionName goodSymbolName decimalTo compareBytes sameBytes nameBytes longRun symbolRun slashRun sectionRun checked firstIn isHome
-    isNamed homeStart homeCell homesTo nextStart startAt nextRecord sizeOk sectionTableOk stringsOk symbolTableOk bytesOk dataOk relocationsOk sectionsOk
+    run goodSectionName goodSymbolName decimalTo compareBytes sameBytes nameBytes longRun symbolRun slashRun sectionRun checked firstIn isHome
+    isNamed homeStart homeCell nextStart startAt nextRecord sizeOk sectionTableOk stringsOk symbolTableOk bytesOk dataOk relocationsOk sectionsOk
     symbolFine fineAt namesOk insertName externRecords externsTo putsBy puts slotFrom sectionsTo fixAtRecord skipAtRecord byKind resolved bySymbol outcome
     passes tallyOf homeTarget slotTarget namedTarget labelTarget dataTarget sectionTarget targetBy valueOf cellOf listed firstFailed countsBy answerBy
-    lists.recordsTo tallies.inSection objects.owed checking.owedNext homing.recordsTo homing.homeRecord laying.startsTo sectionWords symbolWords
+    lists.recordsTo tallies.inSection objects.owed checking.owedNext homing.homeRecord sectionWords symbolWords
     externWords fixWords baseOk
     appliedBy applied upFrom covers latest originBy byteOf
 small-patched = demand-3 smallObject smallCounts (table .small) 0x20000000 0x20000000 refl refl (patch 1 0 ∷ []) .one .bytes 1 (omega arith)

@@ -1,6 +1,6 @@
 -- The ways through the readers, and the loops over the list of externs. Assumes nothing.
 use mathlib.Core.Path.{_≡_, refl, sym, ap, _∙_}
-use mathlib.Core.Bool.{Bool, true, false, _&&_, not, and-false}
+use mathlib.Core.Bool.{Bool, true, false, not}
 use mathlib.Core.List.{List, [], _∷_, _++_, append-assoc}
 use mathlib.Core.Logic.{⊎-elim}
 use Prim.Native.Nat.{ℕ, zero, suc, _+_, _-_, _/_, _≤_, _<_, min}
@@ -8,7 +8,8 @@ use native.Mathlib.Nat.{not-suc-le-zero}
 use native.Mathlib.Numerals.{add-one, sub-one}
 use native.Mathlib.Omega.{arith}
 use borrow.Author.Tests.{eq-eqb, ne-eqb}
-use lib.ListN.{length, getD, take, drop, set, length-append, length-drop, drop-of-length-le, length-set, take-append-drop}
+use lib.Dec.{eqb}
+use lib.ListN.{length, getD, take, drop, set, length-append, length-drop, drop-of-length-le, length-set}
 use lib.Seq.{
   drop-cons,
   take-suc,
@@ -36,7 +37,7 @@ use Rattle.names.specs.declared.Order.{Order}
 use Rattle.names.specs.declared.Order.the-variants.{Less, Equal, Greater}
 use Rattle.names.specs.Name.{symbolText}
 use Rattle.externs.specs.Puts.{sectionNamed, outside, missing, isCommon, putsBy, putsName, isOwn, puts}
-use Rattle.externs.specs.Externs.{orderOf, insertName, externRecords, externsTo, Holds}
+use Rattle.externs.specs.Externs.{insertName, externRecords, externsTo, Holds}
 use Rattle.externs.specs.ExternLaws.{records-grow, sections-grow, over-length, count-room, count-list}
 use Rattle.externs.specs.Held.{held, putAt, lowerAt, Placed, Inserted}
 use Rattle.externs.specs.Bisect.{nameOrder, bySide, halves}
@@ -48,6 +49,9 @@ use Rattle.externs.specs.declared.Found.{Found}
 use Rattle.externs.specs.declared.Found.the-variants.{At, Nothing}
 
 -- ---- which relocations put a name
+pub own-is : (map : List ℕ) (j b : ℕ) → b ≡ getD map j 0 → eqb b 1 ≡ isOwn map j
+own-is map j b q = rw q
+
 module _ (f : List ℕ) (h : Header) (j : ℕ) (k : SymbolKind) (p : Place) (is : k ≡ kind f h j) (at : p ≡ symbolPlace f h j) where
   pub name-data : (b : Bool) → k ≡ Data → b ≡ outside p → b ≡ putsName f h j
   unfolding putsBy
@@ -115,27 +119,27 @@ module _ (f : List ℕ) (h : Header) (j : ℕ) where
   unfolding Passed
   spot-none xs = refl
 
-  module _ (l : List ℕ) (n i : ℕ) (r : Order) where
-    pub spot-less : i < n → n ≤ length l → r ≡ orderOf f h j (getD l i 0) → r ≡ Less → Passed f h j (held n l) i
+  module _ (l : List ℕ) (n i : ℕ) (r : Order) (name : List ℕ) (is : name ≡ symbolText f h j) where
+    pub spot-less : i < n → n ≤ length l → r ≡ nameOrder f h name (getD l i 0) → r ≡ Less → Passed f h j (held n l) i
         → insertName f h j (held n l) ≡ putAt i j (held n l)
     unfolding Passed putAt insertName
     spot-less k room e z q =
-        q ∙ ap (λ (ys : List ℕ). take i (held n l) ++ ys) (simp (at-held l n i k room, sym e ∙ z))
+        q ∙ ap (λ (ys : List ℕ). take i (held n l) ++ ys) (simp (at-held l n i k room, sym (rw is at e) ∙ z))
 
-    pub spot-same : i < n → n ≤ length l → r ≡ orderOf f h j (getD l i 0) → r ≡ Equal → Passed f h j (held n l) i
+    pub spot-same : i < n → n ≤ length l → r ≡ nameOrder f h name (getD l i 0) → r ≡ Equal → Passed f h j (held n l) i
         → insertName f h j (held n l) ≡ lowerAt i j (held n l)
     unfolding Passed lowerAt insertName
     spot-same k room e z q =
         let y : insertName f h j (drop i (held n l)) ≡ min j (getD l i 0) ∷ drop (suc i) (held n l) =
-        simp (at-held l n i k room, sym e ∙ z) in
+        simp (at-held l n i k room, sym (rw is at e) ∙ z) in
         q ∙ ap (λ (ys : List ℕ). take i (held n l) ++ ys) (y ∙ ap (λ (x : ℕ). min j x ∷ drop (suc i) (held n l)) (sym (get-held l n i k room)))
 
-    pub spot-more : i < n → n ≤ length l → r ≡ orderOf f h j (getD l i 0) → r ≡ Greater → Passed f h j (held n l) i
+    pub spot-more : i < n → n ≤ length l → r ≡ nameOrder f h name (getD l i 0) → r ≡ Greater → Passed f h j (held n l) i
         → Passed f h j (held n l) (i + 1)
     unfolding Passed insertName
     spot-more k room e z q =
         let y : insertName f h j (drop i (held n l)) ≡ getD l i 0 ∷ insertName f h j (drop (suc i) (held n l)) =
-        simp (at-held l n i k room, sym e ∙ z) in
+        simp (at-held l n i k room, sym (rw is at e) ∙ z) in
         rw (add-one, take-held l n i k room)
         (q ∙ ap (λ (ys : List ℕ). take i (held n l) ++ ys) y ∙ sym (append-snoc (take i (held n l)) (getD l i 0) (insertName f h j (drop (suc i) (held n l)))))
 

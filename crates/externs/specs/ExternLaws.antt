@@ -1,9 +1,9 @@
 -- What the list of externs is, for every file and every map of own records: sorted, each name once, exactly the names put, with the lowest numbers.
 use mathlib.Core.Path.{_≡_, refl, sym, ap, _∙_}
 use mathlib.Core.Bool.{Bool, true, false}
-use mathlib.Core.List.{List, [], _∷_}
+use mathlib.Core.List.{List}
 use mathlib.Core.Logic.{_⊎_, inl, inr, ⊎-elim}
-use Prim.Native.Nat.{ℕ, zero, suc, _≤_, _<_}
+use Prim.Native.Nat.{ℕ, zero, suc, _+_, _≤_, _<_}
 use native.Mathlib.Nat.{not-suc-le-zero, le-refl, le-trans, le-of-suc-le-suc, eq-or-lt-of-le}
 use native.Mathlib.Omega.{arith}
 use lib.ListN.{length, getD, take}
@@ -12,10 +12,10 @@ use Rattle.util.specs.Pick.{pick}
 use Rattle.object.specs.declared.Header.{Header}
 use Rattle.object.specs.Section.{relocationCount}
 use Rattle.object.specs.Relocation.{relocationSymbol}
-use Rattle.names.specs.declared.Order.{Order}
-use Rattle.names.specs.declared.Order.the-variants.{Less, Equal, Greater}
+use Rattle.names.specs.declared.Order.the-variants.{Less, Equal}
 use Rattle.names.specs.Name.{symbolText}
 use Rattle.names.specs.OrderLaws.{compare-self, equal-same}
+use Rattle.checks.specs.Limits.{MAX-EXTERNS}
 use Rattle.externs.specs.Puts.{puts}
 use Rattle.externs.specs.Externs.{orderOf, insertName, externRecords, externsTo, externsBy, Holds}
 use Rattle.externs.specs.declared.Names.{Names}
@@ -23,7 +23,7 @@ use Rattle.externs.specs.declared.Names.the-variants.{TooMany, Count}
 use Rattle.externs.specs.declared.Found.the-variants.{At}
 use Rattle.externs.specs.Slot.{slotOf}
 use Rattle.externs.specs.SlotLaws.{Slot, slot-of-entry}
-use Rattle.externs.specs.Inserting.{In, Rising, Has, Index, in-insert, rise, keep, put-in, insert-grows, member, index-of, rising-at, rising-once}
+use Rattle.externs.specs.Inserting.{In, Rising, Has, in-insert, rise, keep, put-in, insert-grows, member, index-of, rising-at, rising-once}
 
 -- y is the symbol of a relocation that puts its name, in one of the first m sections
 pub record Put (f : List ℕ) (h : Header) (map : List ℕ) (m y : ℕ) : Type 0 where
@@ -208,19 +208,19 @@ module _ (f : List ℕ) (h : Header) (map : List ℕ) where
 
 -- ---- what the answer of `collect` says of the list ys and the buffer
 module _ (ys set : List ℕ) (r : Names) (q : Holds ys set r) where
-  pub over-length : r ≡ TooMany → 1024 < length ys
+  pub over-length : r ≡ TooMany → MAX-EXTERNS < length ys
   unfolding Holds
   over-length e = rw e at q
 
-  pub count-room : (n : ℕ) → r ≡ Count n → n ≤ 1024
+  pub count-room : (n : ℕ) → r ≡ Count n → n ≤ MAX-EXTERNS
   unfolding Holds
   count-room n e = (rw e at q) .0
 
   -- so they are a part of the buffer
-  pub count-fits : (n : ℕ) → r ≡ Count n → length set ≡ 1025 → n ≤ length set
-  count-fits n e q = let k : n ≤ 1024 = count-room n e in omega arith
+  pub count-fits : (n : ℕ) → r ≡ Count n → length set ≡ MAX-EXTERNS + 1 → n ≤ length set
+  count-fits n e q = let k : n ≤ MAX-EXTERNS = count-room n e in omega arith
 
-  pub count-taken : (n : ℕ) → r ≡ Count n → length set ≡ 1025 → length (take n set) ≡ n
+  pub count-taken : (n : ℕ) → r ≡ Count n → length set ≡ MAX-EXTERNS + 1 → length (take n set) ≡ n
   count-taken n e q = length-take-le n set (count-fits n e q)
 
   pub count-list : (n : ℕ) → r ≡ Count n → take n set ≡ ys

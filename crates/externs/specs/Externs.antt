@@ -1,8 +1,7 @@
 -- The extern list: symbol numbers in the order of their names, each name once, with the lowest number that put it there (01, "Layout, slots and fixups").
-use mathlib.Core.Bool.{Bool}
 use mathlib.Core.List.{List, [], _∷_}
 use mathlib.Core.Path.{_≡_}
-use Prim.Native.Nat.{ℕ, zero, suc, _+_, _≤_, _<_, min}
+use Prim.Native.Nat.{ℕ, zero, suc, _≤_, _<_, min}
 use lib.ListN.{length, take}
 use Rattle.util.specs.Pick.{pick}
 use Rattle.object.specs.declared.Header.{Header}
@@ -13,6 +12,7 @@ use Rattle.names.specs.declared.Order.{Order}
 use Rattle.names.specs.declared.Order.the-variants.{Less, Equal, Greater}
 use Rattle.names.specs.Bytes.{compareBytes}
 use Rattle.names.specs.Name.{symbolText}
+use Rattle.checks.specs.Limits.{MAX-EXTERNS}
 use Rattle.externs.specs.declared.Names.{Names}
 use Rattle.externs.specs.declared.Names.the-variants.{TooMany, Count}
 use Rattle.externs.specs.Puts.{puts}
@@ -49,7 +49,7 @@ externsBy f h map = externsTo f h map (h .sections)
 abbrev pub externs : List ℕ → Header → List ℕ
 externs f h = externsBy f h (primaries f h (h .symbols))
 
--- what a buffer that holds at most 1,024 numbers says of the list: too many, or its first n are the list
+-- what a buffer that holds at most as many numbers as there may be names says of the list: too many, or its first n are the list
 unfoldable pub Holds : List ℕ → List ℕ → Names → Type 0
-Holds ys set TooMany = 1024 < length ys
-Holds ys set (Count n) = (n ≤ 1024) × (take n set ≡ ys)
+Holds ys set TooMany = MAX-EXTERNS < length ys
+Holds ys set (Count n) = (n ≤ MAX-EXTERNS) × (take n set ≡ ys)

@@ -1,6 +1,6 @@
 -- What the parts of `collect` promise: the list of externs is the first n numbers of a buffer.
 use mathlib.Core.Path.{_≡_}
-use mathlib.Core.List.{List, [], _∷_, _++_}
+use mathlib.Core.List.{List, _∷_, _++_}
 use Prim.Native.Nat.{ℕ, suc, _+_, _≤_, _<_, min}
 use lib.ListN.{getD, take, drop}
 use Rattle.object.specs.declared.Header.{Header}

@@ -1,7 +1,7 @@
 -- The slot of a name: its index in the list of externs (01, "Layout, slots and fixups").
 use mathlib.Core.Bool.{Bool}
 use mathlib.Core.List.{List, [], _∷_}
-use Prim.Native.Nat.{ℕ, zero, suc}
+use Prim.Native.Nat.{ℕ, suc}
 use Rattle.util.specs.Pick.{pick}
 use Rattle.object.specs.declared.Header.{Header}
 use Rattle.names.specs.Bytes.{sameBytes}

@@ -1,17 +1,15 @@
 -- What the slot of a name is, for every list of symbol numbers.
-use mathlib.Core.Path.{_≡_, refl, sym, ap, _∙_}
-use mathlib.Core.Bool.{Bool, true, false}
+use mathlib.Core.Path.{_≡_}
+use mathlib.Core.Bool.{true, false}
 use mathlib.Core.List.{List, [], _∷_}
-use mathlib.Core.Logic.{_⊎_, inl, inr, ⊎-elim}
-use Prim.Native.Nat.{ℕ, zero, suc, _+_, _≤_, _<_}
+use mathlib.Core.Logic.{⊎-elim}
+use Prim.Native.Nat.{ℕ, zero, suc, _+_, _<_}
 use native.Mathlib.Nat.{not-suc-le-zero, le-of-suc-le-suc}
 use native.Mathlib.Omega.{arith}
 use lib.ListN.{length, getD}
 use Rattle.util.specs.Pick.{pick, yes-no}
 use Rattle.object.specs.declared.Header.{Header}
-use Rattle.names.specs.Bytes.{sameBytes}
 use Rattle.names.specs.Name.{symbolText}
-use Rattle.externs.specs.declared.Found.{Found}
 use Rattle.externs.specs.declared.Found.the-variants.{At, Nothing}
 use Rattle.names.specs.OrderLaws.{same-bytes, same-self}
 use Rattle.externs.specs.Slot.{isNamed, slotFrom, slotOf}

@@ -5,10 +5,11 @@ use object::Place;
 use object::SymbolKind;
 ghost use mathlib.Core.Path.{_≡_};
 ghost use Prim.Native.Nat.{_+_, _≤_, _<_};
-ghost use lib.ListN.{length, take};
+ghost use lib.ListN.{length};
 ghost use Rattle.object.specs.Section.{relocationCount};
-ghost use Rattle.externs.specs.Puts.{hasName, sectionNamed, outside, missing, isCommon, putsBy, putsName, isOwn, puts};
-ghost use Rattle.externs.specs.Externs.{orderOf, externRecords, externsBy, Holds};
+ghost use Rattle.checks.specs.Limits.{MAX-EXTERNS};
+ghost use Rattle.externs.specs.Puts.{hasName, sectionNamed, outside, missing, isCommon, putsName, isOwn, puts};
+ghost use Rattle.externs.specs.Externs.{externRecords, externsBy, Holds};
 ghost use Rattle.externs.specs.Held.{held, putAt, lowerAt, Placed, Inserted};
 ghost use Rattle.externs.specs.Bisect.{nameOrder, bisect};
 
@@ -130,11 +131,11 @@ fn puts(f: &[u8], h: Header, map: &[u8], i: u32, k: u32) -> bool
     }
 }
 
-// The order of the names of symbols j and x.
-fn order_of(f: &[u8], h: Header, j: u32, x: u32) -> Order
-    ensures { λ r. ⌜ r ≡ orderOf (now (f .entry)) h j x ⌝ }
+// The order of a name and that of symbol x.
+fn name_order(f: &[u8], h: Header, name: &[u8], x: u32) -> Order
+    ensures { λ r. ⌜ r ≡ nameOrder (now (f .entry)) h (now (name .entry)) x ⌝ }
 {
-    names::compare(names::symbol_text(f, h, j), names::symbol_text(f, h, x))
+    names::compare(name, names::symbol_text(f, h, x))
 }
 
 // Where j goes among the first n, or where its name is.
@@ -142,9 +143,10 @@ fn find(f: &[u8], h: Header, set: &[u32], n: usize, j: u32) -> Spot
     requires { ⌜ n ≤ length (now set) ⌝ }
     ensures { λ r. ⌜ Placed (now (f .entry)) h j n (held n (now (set .entry))) r ⌝ }
 {
+    let name = names::symbol_text(f, h, j);
     let mut p = 0;
     while p < n {
-        match order_of(f, h, j, set[p]) {
+        match name_order(f, h, name, set[p]) {
             Order::Less => {
                 return Spot::Before(p);
             }
@@ -201,7 +203,7 @@ fn insert(f: &[u8], h: Header, set: &mut [u32], n: usize, j: u32) -> usize
 
 // Inserts what the relocations of section i put into the first n.
 fn add_records(f: &[u8], h: Header, map: &[u8], set: &mut [u32], n: usize, i: u32) -> Names
-    requires { ⌜ (n ≤ 1024) × (1024 < length (now set)) ⌝ }
+    requires { ⌜ (n ≤ MAX-EXTERNS) × (MAX-EXTERNS < length (now set)) ⌝ }
     ensures { λ r.
         ⌜ Holds (externRecords (now (f .entry)) h (now (map .entry)) i (held n (now (set .entry))) (relocationCount (now (f .entry)) h i)) (now (set .exit)) r ⌝ }
 {
@@ -211,7 +213,7 @@ fn add_records(f: &[u8], h: Header, map: &[u8], set: &mut [u32], n: usize, i: u3
     while k < m {
         if puts(f, h, map, i, k) {
             let r = insert(f, h, set, count, object::relocation_symbol(f, h, i, k));
-            if 1024 < r {
+            if checks::MAX_EXTERNS < r {
                 return Names::TooMany;
             }
             count = r;
@@ -224,7 +226,7 @@ fn add_records(f: &[u8], h: Header, map: &[u8], set: &mut [u32], n: usize, i: u3
 }
 
 fn fill(f: &[u8], h: Header, map: &[u8], set: &mut [u32]) -> Names
-    requires { ⌜ 1024 < length (now set) ⌝ }
+    requires { ⌜ MAX-EXTERNS < length (now set) ⌝ }
     ensures { λ r. ⌜ Holds (externsBy (now (f .entry)) h (now (map .entry))) (now (set .exit)) r ⌝ }
 {
     let m = h.sections as u32;
@@ -248,16 +250,9 @@ fn fill(f: &[u8], h: Header, map: &[u8], set: &mut [u32]) -> Names
 // The length is said again for a caller, who knows no more of a lent array than this.
 pub fn collect(f: &[u8], h: Header, map: &[u8], set: &mut [u32; 1025]) -> Names
     ensures { λ r. ⌜ Holds (externsBy (now (f .entry)) h (now (map .entry))) (now (set .exit)) r ⌝ }
-    ensures { λ r. ⌜ length (now (set .exit)) ≡ 1025 ⌝ }
+    ensures { λ r. ⌜ length (now (set .exit)) ≡ MAX-EXTERNS + 1 ⌝ }
 {
     fill(f, h, map, set)
-}
-
-// The order of a name and that of symbol x.
-fn name_order(f: &[u8], h: Header, name: &[u8], x: u32) -> Order
-    ensures { λ r. ⌜ r ≡ nameOrder (now (f .entry)) h (now (name .entry)) x ⌝ }
-{
-    names::compare(name, names::symbol_text(f, h, x))
 }
 
 // The slot of a name: its index in the list of externs, which is sorted. Of the n entries from lo the middle one decides.

@@ -1,17 +1,18 @@
--- What holds of every fixup that a relocation comes to holds of every element of the fix list.
+-- What holds of every fixup that a relocation comes to holds of every element of the fix list; and every fixup and every skip stands in its list.
 use mathlib.Core.Path.{_≡_, refl, ap, _∙_}
 use mathlib.Core.List.{List, [], _∷_, _++_}
 use mathlib.Core.Logic.{⊎-elim}
 use Prim.Native.Nat.{ℕ, zero, suc, _+_, _-_, _<_}
 use native.Mathlib.Omega.{arith}
-use native.Mathlib.Nat.{not-suc-le-zero, le-of-suc-le-suc}
+use native.Mathlib.Nat.{not-suc-le-zero, le-of-suc-le-suc, eq-or-lt-of-le}
 use lib.ListN.{length, getD, length-append, List·getD-append}
 use lib.Seq.{getD-append-add}
 use Rattle.util.specs.Pick.{le-or-lt}
+use Rattle.fixups.specs.declared.Skip.{Skip}
 use Rattle.fixups.specs.declared.Fix.{Fix}
 use Rattle.fixups.specs.declared.Outcome.{Outcome}
 use Rattle.fixups.specs.declared.Outcome.the-variants.{Passed, Skipped, TurnedDown, Fixup}
-use Rattle.fixups.specs.Lists.{recordsTo, sectionsTo, fixesOf, fixAtRecord, fixList}
+use Rattle.fixups.specs.Lists.{recordsTo, sectionsTo, fixesOf, fixAtRecord, fixList, skipAtRecord, skipList}
 
 -- P of every element of a list
 abbrev pub Each : {A : Type 0} → (A → Type 0) → List A → Type 0
@@ -62,3 +63,53 @@ module _ (P : Fix → Type 0) where
       → ((i k : ℕ) (x : Fix) → i < n → k < count i → o i k ≡ Fixup x → P x) → Each P (fixList o count n)
   unfolding fixAtRecord
   every-fixup o count n h = each-section P (fixAtRecord o) count n (λ i k a b. each-fix (o i k) (λ x. h i k x a b))
+
+-- ---- x stands in a list, at a position
+pub record Stands {A : Type 0} (x : A) (l : List A) : Type 0 where
+  pub position : ℕ
+  pub inside : position < length l
+  pub is : (d : A) → getD l position d ≡ x
+
+module _ {A : Type 0} (x : A) where
+  stands-alone : Stands x (x ∷ [])
+  stands-alone = record { position = 0; inside = omega arith; is = λ d. refl }
+
+  stands-left : (xs ys : List A) → Stands x xs → Stands x (xs ++ ys)
+  stands-left xs ys s =
+      let n : length (xs ++ ys) ≡ length xs + length ys = length-append xs ys in
+      let h = s .inside in
+      record { position = s .position; inside = omega arith; is = λ d. List·getD-append xs ys d (s .position) h ∙ s .is d }
+
+  stands-right : (xs ys : List A) → Stands x ys → Stands x (xs ++ ys)
+  stands-right xs ys s =
+      let n : length (xs ++ ys) ≡ length xs + length ys = length-append xs ys in
+      let h = s .inside in
+      record { position = length xs + s .position; inside = omega arith; is = λ d. getD-append-add xs ys (s .position) d ∙ s .is d }
+
+  module _ (out : ℕ → ℕ → List A) where
+    stands-record : (i n k : ℕ) → k < n → Stands x (out i k) → Stands x (recordsTo out i n)
+    unfolding recordsTo
+    stands-record i zero k h s = absurd (not-suc-le-zero h)
+    stands-record i (suc n) k h s =
+        ⊎-elim (λ q. stands-right (recordsTo out i n) (out i n) (rw (← q) s)) (λ lt. stands-left (recordsTo out i n) (out i n) (stands-record i n k lt s))
+        (eq-or-lt-of-le (le-of-suc-le-suc h))
+
+    stands-section : (count : ℕ → ℕ) (n i k : ℕ) → i < n → k < count i → Stands x (out i k) → Stands x (sectionsTo out count n)
+    unfolding sectionsTo
+    stands-section count zero i k h l s = absurd (not-suc-le-zero h)
+    stands-section count (suc n) i k h l s =
+        ⊎-elim
+        (λ q. stands-right (sectionsTo out count n) (recordsTo out n (count n)) (rw (← q) (stands-record i (count i) k l s)))
+        (λ lt. stands-left (sectionsTo out count n) (recordsTo out n (count n)) (stands-section count n i k lt l s))
+        (eq-or-lt-of-le (le-of-suc-le-suc h))
+
+module _ (o : ℕ → ℕ → Outcome) (count : ℕ → ℕ) (n i k : ℕ) (section : i < n) (index : k < count i) where
+  -- a relocation that comes to a fixup has it in the fix list
+  pub fixup-listed : (x : Fix) → o i k ≡ Fixup x → Stands x (fixList o count n)
+  unfolding fixAtRecord
+  fixup-listed x e = stands-section x (fixAtRecord o) count n i k section index (rw e (stands-alone x))
+
+  -- one that is skipped stands in the skip list, with its section, record and reason
+  pub skip-listed : (r : Skip) → o i k ≡ Skipped r → Stands (record { section = i + 1; index = k; reason = r }) (skipList o count n)
+  unfolding skipAtRecord
+  skip-listed r e = stands-section _ (skipAtRecord o) count n i k section index (rw e (stands-alone _))

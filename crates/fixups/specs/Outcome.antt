@@ -1,5 +1,4 @@
 -- What becomes of relocation k of section i: passed, skipped for a reason, refused by 10, or a fixup (01, "Layout, slots and fixups").
-use mathlib.Core.Bool.{Bool, true, false}
 use mathlib.Core.List.{List}
 use Prim.Native.Nat.{ℕ, _+_, _-_}
 use lib.Dec.{eqb, leb}
@@ -13,8 +12,7 @@ use Rattle.object.specs.declared.RelocationType.{RelocationType}
 use Rattle.object.specs.Relocation.{relocationAddress, relocationSymbol, relocationType, typeOf}
 use Rattle.externs.specs.declared.Found.{Found}
 use Rattle.externs.specs.Puts.{isOwn}
-use Rattle.fixups.specs.declared.Skip.{Skip}
-use Rattle.fixups.specs.declared.Skip.the-variants.{NoSymbol, NoHome, NoSlot, NoType}
+use Rattle.fixups.specs.declared.Skip.the-variants.{NoSymbol, NoType}
 use Rattle.fixups.specs.declared.Target.{Target}
 use Rattle.fixups.specs.declared.Target.the-variants.{Home, Named, Slot, Missing, Refused}
 use Rattle.fixups.specs.declared.Fix.{Fix}
@@ -52,7 +50,8 @@ module _ (f : List ℕ) (h : Header) (map homes : List ℕ) (undef : ℕ) (slot 
       pick (leb (h .symbols) j) (Skipped NoSymbol) (pick (isOwn map j) (resolved (targetOf f h homes undef slot j) t place) TurnedDown)
 
 module _ (arch : Arch) (f : List ℕ) (h : Header) (map homes : List ℕ) (undef : ℕ) (slot : List ℕ → Found) where
-  -- relocations of a section without a home are passed; the place is the home's start and the address field
+  -- relocations of a section without a home are passed; the place is the home's start and the address field. Refusal 10's cases are in three
+  -- places: the auxiliary record in `bySymbol`, kind and place of the symbol in `targetOf`, the type that is not carried in `byKind`
   unfoldable pub outcome : ℕ → ℕ → Outcome
   outcome i k =
       pick (eqb (getD homes i 0) 0) Passed

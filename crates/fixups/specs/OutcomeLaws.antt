@@ -1,14 +1,14 @@
--- What a fixup tells of its relocation, for every file and every map, homes and slots.
+-- What a fixup tells of its relocation, and that a home's relocations are not passed; for every file and every map, homes and slots.
 use mathlib.Core.Path.{_≡_, refl, sym, ap, _∙_}
-use mathlib.Core.Bool.{Bool, true, false, _&&_, _||_}
+use mathlib.Core.Bool.{true, false}
 use mathlib.Core.List.{List}
 use mathlib.Core.Logic.{_⊎_, inl, inr, ⊎-elim}
-use Prim.Native.Nat.{ℕ, _+_, _-_, _*_, _≤_, _<_}
+use Prim.Native.Nat.{ℕ, _+_, _-_, _<_}
 use native.Mathlib.Omega.{arith}
-use lib.Dec.{eqb, leb, ltb}
+use lib.Dec.{eqb, leb}
 use lib.ListN.{getD}
 use borrow.Author.Tests.{leb-false}
-use Rattle.util.specs.Pick.{pick, yes-no}
+use Rattle.util.specs.Pick.{pick, yes-no, pick-either}
 use Rattle.arch.specs.declared.Arch.{Arch}
 use Rattle.arch.specs.declared.Arch.the-variants.{X32, X64}
 use Rattle.object.specs.declared.Header.{Header}
@@ -18,15 +18,14 @@ use Rattle.object.specs.declared.RelocationType.{RelocationType}
 use Rattle.object.specs.Relocation.{relocationAddress, relocationSymbol, relocationType, type32, type64, typeOf}
 use Rattle.externs.specs.declared.Found.{Found}
 use Rattle.externs.specs.Puts.{isOwn}
-use Rattle.fixups.specs.declared.Skip.{Skip}
-use Rattle.fixups.specs.declared.Skip.the-variants.{NoSymbol, NoHome, NoSlot, NoType}
+use Rattle.fixups.specs.declared.Skip.the-variants.{NoSymbol, NoType}
 use Rattle.fixups.specs.declared.Target.{Target}
 use Rattle.fixups.specs.declared.Target.the-variants.{Home, Named, Slot, Missing, Refused}
 use Rattle.fixups.specs.declared.Fix.{Fix}
-use Rattle.fixups.specs.declared.Outcome.{Outcome}
 use Rattle.fixups.specs.declared.Outcome.the-variants.{Passed, Skipped, TurnedDown, Fixup}
 use Rattle.fixups.specs.Target.{targetOf}
 use Rattle.fixups.specs.Outcome.{byKind, fixOf, fixAt, resolved, bySymbol, outcome}
+use Rattle.fixups.specs.Tally.{isPassed}
 
 -- ---- the types that are carried have 32 or 64 bits
 pub record HasBits (t : RelocationType) : Type 0 where
@@ -44,25 +43,20 @@ bits-none t e = record { carried = inl e }
 bits-unknown : (t : RelocationType) → t .kind ≡ Unknown → HasBits t
 bits-unknown t e = record { carried = inr (inl e) }
 
-either : (b : Bool) (s t : RelocationType) → HasBits s → HasBits t → HasBits (pick b s t)
-unfolding pick
-either true s t x y = x
-either false s t x y = y
-
 has-bits-32 : (t : ℕ) → HasBits (type32 t)
 unfolding type32
 has-bits-32 t =
-    either _ _ _ (bits-32 _ refl) (either _ _ _ (bits-32 _ refl) (either _ _ _ (bits-32 _ refl) (either _ _ _ (bits-32 _ refl) (either _ _ _ (bits-none _ refl) (bits-unknown _ refl)))))
+    pick-either HasBits _ _ _ (λ e. bits-32 _ refl) (pick-either HasBits _ _ _ (λ e. bits-32 _ refl) (pick-either HasBits _ _ _ (λ e. bits-32 _ refl) (pick-either HasBits _ _ _ (λ e. bits-32 _ refl) (pick-either HasBits _ _ _ (λ e. bits-none _ refl) (bits-unknown _ refl)))))
 
 has-bits-64 : (t : ℕ) → HasBits (type64 t)
 unfolding type64
 has-bits-64 t =
-    either _ _ _ (bits-32 _ refl)
-    (either _ _ _ (bits-64 _ refl)
-    (either _ _ _ (bits-32 _ refl)
-    (either _ _ _ (bits-32 _ refl)
-    (either _ _ _ (bits-32 _ refl)
-    (either _ _ _ (bits-none _ refl)
+    pick-either HasBits _ _ _ (λ e. bits-32 _ refl)
+    (pick-either HasBits _ _ _ (λ e. bits-64 _ refl)
+    (pick-either HasBits _ _ _ (λ e. bits-32 _ refl)
+    (pick-either HasBits _ _ _ (λ e. bits-32 _ refl)
+    (pick-either HasBits _ _ _ (λ e. bits-32 _ refl)
+    (pick-either HasBits _ _ _ (λ e. bits-none _ refl)
     (bits-unknown _ refl))))))
 
 pub has-bits : (a : Arch) (t : ℕ) → HasBits (typeOf a t)
@@ -152,3 +146,33 @@ fix-from a f h map homes undef slot i k x e =
     symbol-fix f h map homes undef slot (relocationSymbol f h i k) t (getD homes i 0 - 1 + relocationAddress f h i k) x (has-bits a (relocationType f h i k)) (rw n at e) in
     record { homed = n; known = r .known; own = r .own; resolved = r .resolved })
     (yes-no (eqb (getD homes i 0) 0))
+
+-- ---- passed are the relocations of sections without a home alone
+kind-not-passed : (k : RelocationKind) (x : Fix) → isPassed (byKind k x) ≡ false
+unfolding byKind
+kind-not-passed Absolute x = refl
+kind-not-passed ImageOffset x = refl
+kind-not-passed SectionOffset x = refl
+kind-not-passed Relative x = refl
+kind-not-passed NotCarried x = refl
+kind-not-passed Unknown x = refl
+
+resolved-not-passed : (g : Target) (t : RelocationType) (place : ℕ) → isPassed (resolved g t place) ≡ false
+unfolding resolved
+resolved-not-passed (Home o) t place = kind-not-passed (t .kind) (fixOf t place o)
+resolved-not-passed (Named o) t place = kind-not-passed (t .kind) (fixOf t place o)
+resolved-not-passed (Slot o) t place = kind-not-passed (t .kind) (fixOf t place o)
+resolved-not-passed (Missing k) t place = refl
+resolved-not-passed Refused t place = refl
+
+module _ (a : Arch) (f : List ℕ) (h : Header) (map homes : List ℕ) (undef : ℕ) (slot : List ℕ → Found) where
+  symbol-not-passed : (j : ℕ) (t : RelocationType) (place : ℕ) → isPassed (bySymbol f h map homes undef slot j t place) ≡ false
+  unfolding bySymbol
+  symbol-not-passed j t place =
+      pick-either (λ y. isPassed y ≡ false) (leb (h .symbols) j) (Skipped NoSymbol) _ (λ e. refl)
+      (pick-either (λ y. isPassed y ≡ false) (isOwn map j) _ TurnedDown (λ e. resolved-not-passed (targetOf f h homes undef slot j) t place) refl)
+
+  pub homed-not-passed : (i k : ℕ) → eqb (getD homes i 0) 0 ≡ false → isPassed (outcome a f h map homes undef slot i k) ≡ false
+  unfolding outcome pick
+  homed-not-passed i k e =
+      rw e (symbol-not-passed (relocationSymbol f h i k) (typeOf a (relocationType f h i k)) (getD homes i 0 - 1 + relocationAddress f h i k))

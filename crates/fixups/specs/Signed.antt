@@ -1,16 +1,13 @@
 -- The signed reading of n bytes, in two's complement: what a processor takes a fixup's bytes for.
 use mathlib.Core.Path.{_≡_, refl, sym, _∙_}
-use mathlib.Core.List.{_∷_}
 use mathlib.Core.Logic.{_⊎_, ⊎-elim}
-use Prim.Native.Nat.{ℕ, zero, suc, _+_, _-_, _*_, _/_, _%_, _^_, _≤_, _<_}
+use Prim.Native.Nat.{ℕ, suc, _+_, _-_, _/_, _%_, _^_, _≤_, _<_}
 use native.Mathlib.Omega.{arith}
-use native.Mathlib.Nat.{pow-suc, pow-zero, one-le-pow, suc-add}
-use lib.Arith.{mod-mul}
 use lib.Dec.{ltb}
 use lib.IntN.{ℤ, pos, negsuc, subℕ}
 use borrow.Author.Tests.{lt-ltb, le-ltb}
 use Rattle.util.specs.Pick.{pick, le-or-lt}
-use Rattle.le.specs.Le.{get, le, get-same}
+use Rattle.le.specs.Le.{get, le, get-low}
 
 -- v, which is below 256 ^ n: the lower half as it is, the upper half less 256 ^ n
 unfoldable pub signed : ℕ → ℕ → ℤ
@@ -20,18 +17,6 @@ signed n v = pick (ltb v (256 ^ n / 2)) (pos v) (subℕ v (256 ^ n))
 minus-one : (signed 4 0xFFFFFFFF ≡ negsuc 0) × (signed 8 0xFFFFFFFFFFFFFFFF ≡ negsuc 0)
 unfolding signed pick
 minus-one = (refl, refl)
-
--- n bytes of a number give the number but for what is above them
-pub get-low : (n v : ℕ) → get n (le n v) 0 ≡ v % 256 ^ n
-unfolding get le
-get-low zero v = rw pow-zero (omega arith)
-get-low (suc n) v =
-    let e : 256 ^ suc n ≡ 256 ^ n * 256 = pow-suc _ _ in
-    let tail : get n (v % 256 ∷ le n (v / 256)) 1 ≡ get n (le n (v / 256)) 0 =
-    get-same n (v % 256 ∷ le n (v / 256)) (le n (v / 256)) 1 0 (λ k p. rw suc-add) in
-    let r : get n (le n (v / 256)) 0 ≡ v / 256 % 256 ^ n = get-low n (v / 256) in
-    let m : v % (256 ^ n * 256) ≡ (v / 256 % 256 ^ n) * 256 + v % 256 = mod-mul v {m = 256 ^ n} {c = 256} (one-le-pow n 256 (omega arith)) (omega arith) in
-    rw e (omega arith)
 
 -- ---- by the two halves
 module _ (n v : ℕ) where

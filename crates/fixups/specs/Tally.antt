@@ -1,11 +1,9 @@
 -- How many relocations come to each outcome (01, "Layout, slots and fixups", refusals 10 and 11), over all sections and their records.
 use mathlib.Core.Bool.{Bool, true, false, not}
-use Prim.Native.Nat.{ℕ, zero, suc, _+_, _*_, _/_}
+use Prim.Native.Nat.{ℕ, _+_, _*_, _/_}
 use lib.Dec.{leb}
-use Rattle.util.specs.Pick.{pick}
 use Rattle.util.specs.Prefix.{sumTo, countTo}
 use Rattle.arch.specs.Page.{PAGE-SIZE}
-use Rattle.fixups.specs.declared.Skip.{Skip}
 use Rattle.fixups.specs.declared.Fix.{Fix}
 use Rattle.fixups.specs.declared.Outcome.{Outcome}
 use Rattle.fixups.specs.declared.Outcome.the-variants.{Passed, Skipped, TurnedDown, Fixup}

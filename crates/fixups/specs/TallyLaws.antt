@@ -1,20 +1,18 @@
 -- Each relocation comes to exactly one outcome, and the counts are the lengths of the lists. For every file; `o i k` is any outcome.
-use mathlib.Core.Path.{_≡_, refl, sym, ap, _∙_}
-use mathlib.Core.Bool.{Bool, true, false}
-use mathlib.Core.List.{List, [], _∷_, _++_}
+use mathlib.Core.Path.{_≡_, refl}
+use mathlib.Core.Bool.{Bool, false}
+use mathlib.Core.List.{List}
 use mathlib.Core.Logic.{⊎-elim}
-use Prim.Native.Nat.{ℕ, zero, suc, _+_, _≤_, _<_}
+use Prim.Native.Nat.{ℕ, zero, suc, _+_, _<_}
 use native.Mathlib.Omega.{arith}
 use native.Mathlib.Nat.{not-suc-le-zero, le-of-suc-le-suc, eq-or-lt-of-le}
 use lib.ListN.{length, length-append}
 use Rattle.util.specs.Pick.{pick, yes-no}
 use Rattle.util.specs.Prefix.{sumTo, countTo}
-use Rattle.fixups.specs.declared.Skip.{Skip}
-use Rattle.fixups.specs.declared.Fix.{Fix}
 use Rattle.fixups.specs.declared.Outcome.{Outcome}
 use Rattle.fixups.specs.declared.Outcome.the-variants.{Passed, Skipped, TurnedDown, Fixup}
-use Rattle.fixups.specs.Tally.{isPassed, isSkipped, isRefused, isFixup, isOutside, passes, inSection, howMany}
-use Rattle.fixups.specs.Lists.{recordsTo, sectionsTo, fixesOf, fixAtRecord, fixList, SkipAt, skipsOf, skipAtRecord, skipList}
+use Rattle.fixups.specs.Tally.{isPassed, isSkipped, isRefused, isFixup, passes, inSection, howMany}
+use Rattle.fixups.specs.Lists.{recordsTo, sectionsTo, fixesOf, fixAtRecord, fixList, skipsOf, skipAtRecord, skipList}
 
 -- one as a number
 abbrev pub one : Bool → ℕ

@@ -1,7 +1,6 @@
 -- What a relocation's symbol comes to, as an offset from the base (01, "Layout, slots and fixups" and refusal 10).
-use mathlib.Core.Bool.{Bool, true, false}
 use mathlib.Core.List.{List}
-use Prim.Native.Nat.{ℕ, zero, suc, _+_, _-_, _*_}
+use Prim.Native.Nat.{ℕ, _+_, _-_, _*_}
 use lib.Dec.{eqb, ltb}
 use lib.ListN.{getD}
 use Rattle.util.specs.Pick.{pick}
@@ -12,6 +11,7 @@ use Rattle.object.specs.declared.Place.{Place}
 use Rattle.object.specs.declared.Place.the-variants.{In, Undefined, Common, Absolute, Nowhere, Other}
 use Rattle.object.specs.Symbol.{kind, symbolPlace}
 use Rattle.names.specs.Name.{symbolText}
+use Rattle.layout.specs.Layout.{SLOT-SIZE}
 use Rattle.layout.specs.Home.{namedRecord, homeCell}
 use Rattle.checks.specs.Limits.{MAX-EXTERNS}
 use Rattle.externs.specs.declared.Found.{Found}
@@ -28,9 +28,6 @@ skipNumber NoSymbol = 1
 skipNumber NoHome = 2
 skipNumber NoSlot = 3
 skipNumber NoType = 4
-
-abbrev pub SLOT-SIZE : ℕ
-SLOT-SIZE = 4
 
 -- a symbol in section n, from 1: that section's home start. `homes` keeps the start and one, or 0 for none
 unfoldable pub homeTarget : List ℕ → ℕ → Target
@@ -63,7 +60,8 @@ module _ (f : List ℕ) (h : Header) (undef : ℕ) (slot : List ℕ → Found) (
   namedFor = namedTarget (homeCell f h (namedRecord f h (symbolText f h j))) slotFor
 
 module _ (f : List ℕ) (h : Header) (homes : List ℕ) (undef : ℕ) (slot : List ℕ → Found) (j : ℕ) where
-  -- data and text: in a section, its home; undefined, common or of unknown place, the slot; absolute is refused
+  -- data and text: in a section, its home; undefined, common or of unknown place, the slot; absolute is refused. None
+  -- is a place of class 103 alone, which is a file's
   unfoldable pub dataTarget : Place → Target
   dataTarget (In n) = homeTarget homes n
   dataTarget Undefined = slotFor f h undef slot j

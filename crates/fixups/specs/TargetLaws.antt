@@ -1,13 +1,12 @@
 -- How far a target can lie: not behind UNDEF's page, which holds the slots. For every file, with any homes that do not start behind UNDEF.
 use mathlib.Core.Path.{_≡_, refl, ap}
-use mathlib.Core.Bool.{Bool, true, false}
 use mathlib.Core.List.{List}
 use mathlib.Core.Logic.{⊎-elim}
 use Prim.Native.Nat.{ℕ, _+_, _-_, _≤_, _<_}
 use native.Mathlib.Omega.{arith}
 use lib.ListN.{getD}
 use borrow.Author.Tests.{ltb-true}
-use Rattle.util.specs.Pick.{pick}
+use Rattle.util.specs.Pick.{pick-either}
 use Rattle.object.specs.declared.Header.{Header}
 use Rattle.object.specs.declared.SymbolKind.{SymbolKind}
 use Rattle.object.specs.declared.SymbolKind.the-variants as kinds
@@ -46,25 +45,20 @@ module _ (u : ℕ) where
   near-none : (g : Target) → offsetOf g ≡ 0 → Near g
   near-none g e = record { near = omega arith }
 
-  either : (b : Bool) (g k : Target) → (b ≡ true → Near g) → Near k → Near (pick b g k)
-  unfolding pick
-  either true g k x y = x refl
-  either false g k x y = y
-
   near-home : (homes : List ℕ) → ((i : ℕ) → getD homes i 0 ≤ u + 1) → (n : ℕ) → Near (homeTarget homes n)
   unfolding homeTarget
   near-home homes cells n =
       let c = cells (n - 1) in
-      either _ _ _ (λ e. near-none (Missing NoHome) refl) (record { near = omega arith })
+      pick-either Near _ _ _ (λ e. near-none (Missing NoHome) refl) (record { near = omega arith })
 
   near-slot : (s : Found) → Near (slotTarget u s)
   unfolding slotTarget
-  near-slot (At e) = either _ _ _ (λ t. let l = ltb-true e 1024 t in record { near = omega arith }) (near-none (Missing NoSlot) refl)
+  near-slot (At e) = pick-either Near _ _ _ (λ t. let l = ltb-true e 1024 t in record { near = omega arith }) (near-none (Missing NoSlot) refl)
   near-slot Nothing = near-none (Missing NoSlot) refl
 
   near-named : (cell : ℕ) (other : Target) → cell ≤ u + 1 → Near other → Near (namedTarget cell other)
   unfolding namedTarget
-  near-named cell other c n = either _ _ _ (λ e. n) (record { near = omega arith })
+  near-named cell other c n = pick-either Near _ _ _ (λ e. n) (record { near = omega arith })
 
 -- ---- a symbol's target
 module _ (f : List ℕ) (h : Header) (homes : List ℕ) (slot : List ℕ → Found) (cells : (i : ℕ) → getD homes i 0 ≤ undefStart f h + 1) (j : ℕ) where

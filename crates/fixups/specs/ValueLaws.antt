@@ -1,6 +1,6 @@
 -- What a fixup's value comes to at a base, and that its bytes keep all of it.
 use mathlib.Core.Path.{_≡_, refl, _∙_}
-use mathlib.Core.Bool.{Bool, true, false}
+use mathlib.Core.Bool.{true, false}
 use mathlib.Core.Logic.{_⊎_, inl, inr, ⊎-elim}
 use Prim.Native.Nat.{ℕ, _+_, _-_, _/_, _%_, _^_, _≤_, _<_}
 use native.Mathlib.Omega.{arith}
@@ -8,16 +8,17 @@ use native.Mathlib.Nat.{mod-lt, mod-eq-of-lt}
 use lib.Dec.{leb}
 use lib.IntN.{subℕ}
 use borrow.Author.Tests.{leb-true}
-use Rattle.util.specs.Pick.{pick, yes-no, le-or-lt, and-left, and-right}
+use Rattle.util.specs.Pick.{pick, yes-no, le-or-lt, and-left, and-right, not-both, pick-either}
 use Rattle.arch.specs.declared.Arch.{Arch}
 use Rattle.arch.specs.declared.Arch.the-variants.{X32, X64}
 use Rattle.object.specs.declared.RelocationKind.{RelocationKind}
 use Rattle.object.specs.declared.RelocationType.{RelocationType}
 use Rattle.object.specs.Relocation.{type32, type64, typeOf}
-use Rattle.le.specs.Le.{get, le}
+use Rattle.le.specs.Le.{get, le, get-low}
+use Rattle.checks.specs.Limits.{MAX-BASE}
 use Rattle.fixups.specs.declared.Fix.{Fix}
 use Rattle.fixups.specs.Value.{isRelative, shift, valueOf}
-use Rattle.fixups.specs.Signed.{signed, get-low, signed-low, signed-high, difference-same, difference-is, low-keeps}
+use Rattle.fixups.specs.Signed.{signed, signed-low, signed-high, difference-same, difference-is, low-keeps}
 
 -- ---- addends, in two's complement of 64 bits: a relative type has 32 bits and -4 to -9, any other 0
 pub record TakesAway (k : RelocationKind) (bits addend : ℕ) : Type 0 where
@@ -44,11 +45,6 @@ pub record Exact (x : Fix) : Type 0 where
 abbrev OfType : RelocationType → Type 0
 OfType t = Addend (t .kind) (t .bits) (t .addend)
 
-either : (b : Bool) (s t : RelocationType) → (b ≡ true → OfType s) → OfType t → OfType (pick b s t)
-unfolding pick
-either true s t x y = x refl
-either false s t x y = y
-
 adds-none : (t : RelocationType) → isRelative (t .kind) ≡ false → t .addend ≡ 0 → OfType t
 adds-none t e z = inr (record { other = e; none = z })
 
@@ -58,25 +54,25 @@ takes-away t e b l m = inl (record { relative = e; narrow = b; least = l; most =
 addend-32 : (t : ℕ) → OfType (type32 t)
 unfolding type32
 addend-32 t =
-    either _ _ _ (λ e. adds-none _ refl refl)
-    (either _ _ _ (λ e. adds-none _ refl refl)
-    (either _ _ _ (λ e. adds-none _ refl refl)
-    (either _ _ _ (λ e. takes-away _ refl refl (omega arith) (omega arith))
-    (either _ _ _ (λ e. adds-none _ refl refl)
+    pick-either OfType _ _ _ (λ e. adds-none _ refl refl)
+    (pick-either OfType _ _ _ (λ e. adds-none _ refl refl)
+    (pick-either OfType _ _ _ (λ e. adds-none _ refl refl)
+    (pick-either OfType _ _ _ (λ e. takes-away _ refl refl (omega arith) (omega arith))
+    (pick-either OfType _ _ _ (λ e. adds-none _ refl refl)
     (adds-none _ refl refl)))))
 
 addend-64 : (t : ℕ) → OfType (type64 t)
 unfolding type64
 addend-64 t =
-    either _ _ _ (λ e. adds-none _ refl refl)
-    (either _ _ _ (λ e. adds-none _ refl refl)
-    (either _ _ _ (λ e. adds-none _ refl refl)
-    (either _ _ _ (λ e. adds-none _ refl refl)
-    (either _ _ _ (λ e.
+    pick-either OfType _ _ _ (λ e. adds-none _ refl refl)
+    (pick-either OfType _ _ _ (λ e. adds-none _ refl refl)
+    (pick-either OfType _ _ _ (λ e. adds-none _ refl refl)
+    (pick-either OfType _ _ _ (λ e. adds-none _ refl refl)
+    (pick-either OfType _ _ _ (λ e.
     let l = leb-true 4 t (and-left (leb 4 t) (leb t 9) e) in
     let m = leb-true t 9 (and-right (leb 4 t) (leb t 9) e) in
     takes-away _ refl refl (omega arith) (omega arith))
-    (either _ _ _ (λ e. adds-none _ refl refl)
+    (pick-either OfType _ _ _ (λ e. adds-none _ refl refl)
     (adds-none _ refl refl))))))
 
 pub type-addend : (a : Arch) (t : ℕ) → Addend (typeOf a t .kind) (typeOf a t .bits) (typeOf a t .addend)
@@ -90,17 +86,14 @@ pub relative-stays : (x : Fix) (b₁ b₂ : ℕ) → isRelative (x .kind) ≡ tr
 unfolding valueOf pick
 relative-stays x b₁ b₂ e = rw e
 
-not-both : (a : Bool) → a ≡ true → a ≡ false → ⊥
-not-both a e d = let z : true ≡ false = cc in absurd (let w : _≡_ {A = ℕ} 0 1 = cc in omega arith)
-
 module _ (x : Fix) (ok : Exact x) where
   no-addend : isRelative (x .kind) ≡ false → x .addend ≡ 0
-  no-addend e = ⊎-elim (λ r. absurd (not-both (isRelative (x .kind)) (r .relative) e)) (λ r. r .none) (ok .addend)
+  no-addend e = ⊎-elim (λ r. not-both (isRelative (x .kind)) (r .relative) e) (λ r. r .none) (ok .addend)
 
   relative-addend : isRelative (x .kind) ≡ true → TakesAway (x .kind) (x .bits) (x .addend)
-  relative-addend e = ⊎-elim (λ r. r) (λ r. absurd (not-both (isRelative (x .kind)) e (r .other))) (ok .addend)
+  relative-addend e = ⊎-elim (λ r. r) (λ r. not-both (isRelative (x .kind)) e (r .other)) (ok .addend)
 
-  module _ (b : ℕ) (low : b ≤ 0x7F000000) where
+  module _ (b : ℕ) (low : b ≤ MAX-BASE) where
     -- any other value is base and target
     pub other-is : isRelative (x .kind) ≡ false → valueOf b x ≡ b + x .target
     unfolding valueOf pick
@@ -110,7 +103,7 @@ module _ (x : Fix) (ok : Exact x) where
         rw (e, n) (omega arith)
 
   -- so it rises by the difference of the bases
-  pub other-rises : (b₁ b₂ : ℕ) → b₁ ≤ 0x7F000000 → b₂ ≤ 0x7F000000 → isRelative (x .kind) ≡ false → valueOf b₂ x + b₁ ≡ valueOf b₁ x + b₂
+  pub other-rises : (b₁ b₂ : ℕ) → b₁ ≤ MAX-BASE → b₂ ≤ MAX-BASE → isRelative (x .kind) ≡ false → valueOf b₂ x + b₁ ≡ valueOf b₁ x + b₂
   other-rises b₁ b₂ l₁ l₂ e = rw (other-is b₁ l₁ e, other-is b₂ l₂ e) (omega arith)
 
   relative-by : (b : ℕ) → isRelative (x .kind) ≡ true → valueOf b x ≡ (x .target + x .addend + (2 ^ 64 - x .place)) % 2 ^ 64
@@ -135,7 +128,7 @@ module _ (x : Fix) (ok : Exact x) where
       (le-or-lt (x .place + (2 ^ 64 - x .addend)) (x .target))
 
   -- ---- the bytes of a fixup keep its value: no bit is lost
-  module _ (b : ℕ) (low : b ≤ 0x7F000000) where
+  module _ (b : ℕ) (low : b ≤ MAX-BASE) where
     -- the value is in the range of four bytes
     near : (valueOf b x < 2 ^ 31) ⊎ ((2 ^ 64 - 2 ^ 31 ≤ valueOf b x) × (valueOf b x < 2 ^ 64))
     near =

@@ -11,7 +11,7 @@ use object::RelocationType;
 ghost use mathlib.Core.Path.{_≡_};
 ghost use Rattle.externs.specs.Bisect.{bisect};
 ghost use Rattle.fixups.specs.Outcome.{byKind, fixAt, resolved, bySymbol, outcome};
-ghost use Rattle.fixups.specs.Value.{isRelative, shift, valueOf};
+ghost use Rattle.fixups.specs.Value.{isRelative, valueOf};
 
 fn by_kind(kind: RelocationKind, x: Fix) -> Outcome
     ensures { λ r. ⌜ r ≡ byKind kind x ⌝ }

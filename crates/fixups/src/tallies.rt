@@ -7,7 +7,7 @@ use arch::Arch;
 use arch::PAGE_SIZE;
 use object::Header;
 ghost use mathlib.Core.Path.{_≡_};
-ghost use Prim.Native.Nat.{_+_, _*_, _^_, _<_, _≤_};
+ghost use Prim.Native.Nat.{_+_, _*_, _^_, _<_};
 ghost use Rattle.object.specs.Section.{relocationCount};
 ghost use Rattle.externs.specs.Bisect.{bisect};
 ghost use Rattle.fixups.specs.declared.Outcome.the-variants.{Fixup};

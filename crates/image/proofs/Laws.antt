@@ -2,7 +2,7 @@
 use mathlib.Core.Path.{_≡_, refl, ap, _∙_}
 use mathlib.Core.Bool.{Bool, true, false}
 use mathlib.Core.List.{List}
-use Prim.Native.Nat.{ℕ, zero, suc, _+_, _-_, _*_, _/_, _%_, _^_, _≤_, _<_, min}
+use Prim.Native.Nat.{ℕ, _+_, _-_, _*_, _/_, _%_, _^_, _≤_, _<_, min}
 use native.Mathlib.Omega.{arith}
 use native.Mathlib.Numerals.{add-one}
 use lib.Dec.{lit<}
@@ -15,9 +15,9 @@ use Rattle.le.specs.Le.{le, splice, splice-next}
 use Rattle.object.specs.declared.Header.{Header}
 use Rattle.object.specs.Format.{rawPointer, rawSize}
 use Rattle.object.specs.Section.{loaded, uninitialized, fileStart, fileEnd}
-use Rattle.image.specs.Laid.{sectionBytes, sectionStep, sectionsLaid, slotStep, slotsLaid}
+use Rattle.image.specs.Laid.{zeroed, sectionBytes, sectionStep, sectionsLaid, slotStep, slotsLaid, laid}
 use Rattle.image.specs.MarkWords.{markWord, markBytes, markCount}
-use Rattle.image.specs.LaidLaws.{length-step, length-sections, length-slots}
+use Rattle.image.specs.LaidLaws.{length-sections, length-slots}
 use Rattle.image.specs.MarkLaws.{length-marks}
 
 -- ---- sections
@@ -42,9 +42,6 @@ module _ (f : List ℕ) (h : Header) (starts image : List ℕ) where
   sections-end i n m b e a c q = let z : i ≡ m = omega arith in cc
 
   -- no byte more or less
-  pub step-same : (i : ℕ) (b : List ℕ) → b ≡ sectionStep f h starts image i → length b ≡ length image
-  step-same i b e = rw e (length-step f h starts image i)
-
   pub sections-same : (n : ℕ) (b : List ℕ) → b ≡ sectionsLaid f h starts image n → length b ≡ length image
   sections-same n b e = rw e (length-sections f h starts image n)
 
@@ -124,3 +121,7 @@ module _ (pages : ℕ) where
   marks-end l b w n e a c q = let z : w ≡ markCount pages = omega arith in cc
 
 pub ruleset marks-loop = (marks-none, marks-again, marks-end)
+
+-- ---- the three writes, one behind another
+pub laid-is : (f : List ℕ) (h : Header) (starts image a b c : List ℕ) (pages base undef n : ℕ) → a ≡ zeroed pages image → b ≡ sectionsLaid f h starts a (h .sections) → c ≡ slotsLaid base undef b n → c ≡ laid f h starts pages base undef n image
+laid-is f h starts image a b c pages base undef n p q r = rw (← p, ← q) r

@@ -8,6 +8,7 @@ use Rattle.arch.specs.Page.{PAGE-SIZE}
 use Rattle.le.specs.Le.{le, splice, part}
 use Rattle.object.specs.declared.Header.{Header}
 use Rattle.object.specs.Section.{loaded, fileStart, fileEnd}
+use Rattle.layout.specs.Layout.{SLOT-SIZE, undefStart, mappedPages, startsTo}
 
 -- the mapped pages are zero
 abbrev pub zeroed : ℕ → List ℕ → List ℕ
@@ -26,11 +27,8 @@ sectionsLaid f h starts image zero = image
 sectionsLaid f h starts image (suc i) = sectionStep f h starts (sectionsLaid f h starts image i) i
 
 -- after the first n slots: slot e, 4 bytes at UNDEF + 4 e, holds its own address
-abbrev pub SLOT : ℕ
-SLOT = 4
-
 unfoldable pub slotStep : ℕ → ℕ → List ℕ → ℕ → List ℕ
-slotStep base undef image e = splice image (undef + SLOT * e) (le SLOT (base + undef + SLOT * e))
+slotStep base undef image e = splice image (undef + SLOT-SIZE * e) (le SLOT-SIZE (base + undef + SLOT-SIZE * e))
 
 unfoldable pub slotsLaid : ℕ → ℕ → List ℕ → ℕ → List ℕ
 slotsLaid base undef image zero = image
@@ -39,3 +37,7 @@ slotsLaid base undef image (suc e) = slotStep base undef (slotsLaid base undef i
 -- with n extern names
 abbrev pub laid : List ℕ → Header → List ℕ → ℕ → ℕ → ℕ → ℕ → List ℕ → List ℕ
 laid f h starts pages base undef n image = slotsLaid base undef (sectionsLaid f h starts (zeroed pages image) (h .sections)) n
+
+-- with the file's own starts, UNDEF and pages: what a load lays
+abbrev pub laidImage : List ℕ → Header → ℕ → ℕ → List ℕ → List ℕ
+laidImage f h base n image = laid f h (startsTo f h (h .sections)) (mappedPages f h) base (undefStart f h) n image

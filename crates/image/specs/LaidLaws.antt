@@ -2,31 +2,22 @@
 -- elsewhere on the mapped pages; behind them the image is as it was.
 use mathlib.Core.Path.{_≡_, refl, sym, ap, _∙_}
 use mathlib.Core.Bool.{true}
-use mathlib.Core.List.{List, [], _∷_}
+use mathlib.Core.List.{List}
 use mathlib.Core.Logic.{⊎-elim}
 use Prim.Native.Nat.{ℕ, zero, suc, _+_, _-_, _*_, _%_, _^_, _≤_, _<_}
 use native.Mathlib.Nat.{le-trans, le-of-suc-le-suc, eq-or-lt-of-le, mod-eq-of-lt}
 use native.Mathlib.Omega.{arith}
-use lib.ListN.{length, replicate, getD, length-append, length-replicate, getD-replicate, List·getD-append, List·getD-eq-default}
-use lib.Seq.{getD-append-seam}
+use lib.ListN.{length, replicate, getD, length-replicate, getD-replicate, List·getD-eq-default}
 use Rattle.util.specs.Pick.{pick, yes-no, le-or-lt}
+use Rattle.util.specs.Prefix.{list-at}
 use Rattle.arch.specs.Page.{PAGE-SIZE}
-use Rattle.le.specs.Le.{le, splice, length-splice, length-le, splice-below, splice-above, splice-in, part-most, part-at}
+use Rattle.le.specs.Le.{le, length-splice, length-le, splice-below, splice-above, splice-out, splice-in, part-most, part-at}
 use Rattle.object.specs.declared.Header.{Header}
-use Rattle.object.specs.Section.{loaded, uninitialized, fileStart, fileEnd, rangeLength}
-use Rattle.object.specs.SectionLaws.{range-holds}
+use Rattle.object.specs.Section.{loaded, fileStart, fileEnd, rangeLength}
+use Rattle.object.specs.SectionLaws.{file-range}
 use Rattle.layout.specs.Layout.{startAt, undefStart, mappedPages, startsTo}
 use Rattle.layout.specs.LayoutLaws.{starts-fit, ranges-apart, ranges-share-none, undef-behind, pages-mapped}
-use Rattle.image.specs.Laid.{zeroed, sectionBytes, sectionStep, sectionsLaid, slotStep, slotsLaid, laid}
-
--- outside a run that is put, nothing changes
-splice-out : (l : List ℕ) (i : ℕ) (vs : List ℕ) (k : ℕ) → (i ≤ k → k < i + length vs → ⊥) → getD (splice l i vs) k 0 ≡ getD l k 0
-splice-out l i vs k h =
-    ⊎-elim
-    (λ (z : i ≤ k).
-    ⊎-elim (λ (y : i + length vs ≤ k). splice-above l i vs k y) (λ (y : k < i + length vs). absurd (h z y)) (le-or-lt (i + length vs) k))
-    (λ (z : k < i). splice-below l i vs k z)
-    (le-or-lt i k)
+use Rattle.image.specs.Laid.{zeroed, sectionBytes, sectionStep, sectionsLaid, slotStep, slotsLaid, laid, laidImage}
 
 -- ---- slots
 module _ (base undef : ℕ) (image : List ℕ) where
@@ -114,39 +105,16 @@ length-laid f h starts pages base undef n image =
 
 -- ---- a loaded section's bytes fit its range
 module _ (f : List ℕ) (h : Header) where
-  pub file-range : (i : ℕ) → fileEnd f h i - fileStart f h i ≤ rangeLength f h i
-  unfolding fileStart fileEnd pick
-  file-range i =
-      let r = range-holds f h i in
-      ⊎-elim (λ t. rw t (omega arith)) (λ t. rw t (omega arith)) (yes-no (uninitialized f h i))
-
   length-bytes : (i : ℕ) → length (sectionBytes f h i) ≤ fileEnd f h i - fileStart f h i
   length-bytes i = part-most f (fileStart f h i) (fileEnd f h i - fileStart f h i)
-
-  -- the list of the starts holds them
-  pub length-starts : (n : ℕ) → length (startsTo f h n) ≡ n
-  unfolding startsTo
-  length-starts zero = refl
-  length-starts (suc n) = simp (length-append, length-starts n) (omega arith)
-
-  starts-at : (n i : ℕ) → i < n → getD (startsTo f h n) i 0 ≡ startAt f h i % 2 ^ 32
-  unfolding startsTo
-  starts-at zero i q = absurd (omega arith)
-  starts-at (suc n) i q =
-      ⊎-elim (λ e. rw e (rw (length-starts n) at (getD-append-seam (startsTo f h n) (startAt f h n % 2 ^ 32) [] 0)))
-      (λ lt. List·getD-append (startsTo f h n) (startAt f h n % 2 ^ 32 ∷ []) 0 i (rw (length-starts n) lt) ∙ starts-at n i lt)
-      (eq-or-lt-of-le (le-of-suc-le-suc q))
 
   -- where refusal 8 does not apply, the 32 bits keep all of each
   pub starts-exact : mappedPages f h ≤ 4096 → (i : ℕ) → i < h .sections → getD (startsTo f h (h .sections)) i 0 ≡ startAt f h i
   starts-exact room i q =
       let s = starts-fit f h room i (omega arith) in
-      starts-at (h .sections) i q ∙ mod-eq-of-lt (omega arith)
+      list-at (λ k. startAt f h k % 2 ^ 32) 0 (h .sections) i q ∙ mod-eq-of-lt (omega arith)
 
 -- ---- the laid image of a file that is accepted
-abbrev pub laidImage : List ℕ → Header → ℕ → ℕ → List ℕ → List ℕ
-laidImage f h base n image = laid f h (startsTo f h (h .sections)) (mappedPages f h) base (undefStart f h) n image
-
 -- refusals 8 and 9 do not apply, and the image has room for the mapped pages
 module _ (f : List ℕ) (h : Header) (base n : ℕ) (image : List ℕ)
     (room : mappedPages f h ≤ 4096) (few : n ≤ 1024) (long : PAGE-SIZE * mappedPages f h ≤ length image) where

@@ -4,7 +4,7 @@ use object::Header;
 ghost use mathlib.Core.Path.{_≡_};
 ghost use Prim.Native.Nat.{_-_, _*_, _^_, _<_};
 ghost use Rattle.le.specs.Le.{le, splice};
-ghost use Rattle.image.specs.Laid.{zeroed, sectionBytes, sectionStep, sectionsLaid, slotStep, slotsLaid, laid};
+ghost use Rattle.image.specs.Laid.{sectionBytes, sectionStep, sectionsLaid, slotStep, slotsLaid, laid};
 ghost use Rattle.image.specs.MarkWords.{markWord, markBytes, markCount};
 
 // The bytes of section i's file range.

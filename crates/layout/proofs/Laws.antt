@@ -1,27 +1,23 @@
 -- The loops of the layout. Assumes nothing.
-use mathlib.Core.Path.{_≡_, refl, sym, ap, _∙_}
-use mathlib.Core.Bool.{Bool, true, false, _&&_}
-use mathlib.Core.List.{List, [], _∷_, _++_}
-use Prim.Native.Nat.{ℕ, zero, suc, _+_, _-_, _*_, _≤_, _<_, _%_, _^_}
+use mathlib.Core.Path.{_≡_, refl, sym, _∙_}
+use mathlib.Core.Bool.{Bool, true, false}
+use mathlib.Core.List.{List, [], _∷_}
+use Prim.Native.Nat.{ℕ, suc, _+_, _-_, _≤_, _<_, _%_, _^_}
 use native.Mathlib.Omega.{arith}
 use native.Mathlib.Numerals.{add-one}
 use lib.Dec.{eqb}
-use lib.ListN.{length, length-append}
-use borrow.Author.Tests.{eq-eqb, ne-eqb}
 use mathlib.Core.Logic.{⊎-elim}
 use Rattle.util.specs.Pick.{pick, yes-no}
 use Rattle.util.specs.Align.{roundUp, align-exact, up-near}
-use Rattle.util.specs.Prefix.{countTo}
-use Rattle.le.specs.Le.{splice, splice-next}
+use Rattle.util.specs.Prefix.{countTo, count-none, count-yes, count-no}
+use Rattle.le.specs.Le.{splice, fill-none, fill-again, fill-end}
 use Rattle.object.specs.declared.Header.{Header}
 use Rattle.object.specs.Section.{loaded, fileStart, rangeLength}
 use Rattle.names.specs.Bytes.{sameBytes}
 use Rattle.names.specs.Name.{sectionText}
 use Rattle.layout.specs.declared.Home.{Home}
-use Rattle.layout.specs.declared.Home.the-variants.{At, Undef, Nowhere}
-use Rattle.layout.specs.Layout.{nextStart, startAt, undefStart, recordOf, tableRecords, nextRecord, startsTo}
+use Rattle.layout.specs.Layout.{nextStart, startAt, recordOf, tableRecords, nextRecord, startsTo}
 use Rattle.layout.specs.Home.{firstIn, isHome, isNamed, homeOf, homeCell, homeRecord, homesTo, recordsTo}
-use Rattle.layout.specs.HomeLaws.{length-homes}
 
 -- ---- one section further
 pub next-is : (at n r : ℕ) → at < 2 ^ 60 → n < 2 ^ 33 → r ≡ roundUp (at + n) 4096 % 2 ^ 64 → r ≡ roundUp (at + n) 4096
@@ -60,21 +56,8 @@ module _ (f : List ℕ) (h : Header) where
     start-end n m e a b q = let z : i ≡ n = omega arith in cc
 
   -- ---- table records
-  pub record-none : 0 ≡ recordOf f h 0
-  unfolding countTo
-  record-none = refl
-
-  module _ (i c : ℕ) where
-    pub record-loaded : (l : Bool) → c ≡ recordOf f h i → l ≡ loaded f h i → l ≡ true → c + 1 ≡ recordOf f h (i + 1)
-    unfolding countTo pick
-    record-loaded l e q t = rw (add-one i, ← q, t, ← e)
-
-    pub record-unloaded : (l : Bool) → c ≡ recordOf f h i → l ≡ loaded f h i → l ≡ false → c ≡ recordOf f h (i + 1)
-    unfolding countTo pick
-    record-unloaded l e q t = rw (add-one i, ← q, t, ← e) (omega arith)
-
-    pub record-end : (n : ℕ) → c ≡ recordOf f h i → i ≤ n → n ≤ i → n ≡ h .sections → c + 1 ≡ tableRecords f h
-    record-end n e a b q = let z : i ≡ h .sections = omega arith in rw (← z, ← e)
+  pub record-end : (i c n : ℕ) → c ≡ recordOf f h i → i ≤ n → n ≤ i → n ≡ h .sections → c + 1 ≡ tableRecords f h
+  record-end i c n e a b q = let z : i ≡ h .sections = omega arith in rw (← z, ← e)
 
   -- ---- the first record that passes a test: what is left of the search is the answer
   module _ (p : ℕ → Bool) (u : Bool) (j n : ℕ) where
@@ -110,16 +93,8 @@ module _ (f : List ℕ) (h : Header) where
   first-begin p u n e = let d : n - 0 ≡ h .sections = omega arith in rw d
 
   -- ---- all homes
-  pub homes-none : (l : List ℕ) → l ≡ splice l 0 (homesTo f h 0)
-  unfolding splice homesTo
-  homes-none l = refl
-
   pub homes-again : (l b b′ : List ℕ) (i x : ℕ) → b ≡ splice l 0 (homesTo f h i) → x ≡ homeCell f h (homeOf f h i) → b′ ≡ splice b i (x % 2 ^ 32 ∷ []) → b′ ≡ splice l 0 (homesTo f h (i + 1))
-  unfolding homesTo
-  homes-again l b b′ i x e q d = rw (d, e, splice-next l 0 (homesTo f h i) (x % 2 ^ 32 ∷ []) i (let z = length-homes f h i in omega arith), q, add-one)
-
-  pub homes-end : (l b : List ℕ) (i n m : ℕ) → b ≡ splice l 0 (homesTo f h i) → i ≤ n → n ≤ i → n ≡ m → b ≡ splice l 0 (homesTo f h m)
-  homes-end l b i n m e a c q = let z : i ≡ n = omega arith in cc
+  homes-again l b b′ i x e q d = fill-again (λ k. homeCell f h (homeOf f h k) % 2 ^ 32) l b b′ i (x % 2 ^ 32) e (rw q) d
 
 module _ (f : List ℕ) (h : Header) (s j : ℕ) (l : Bool) where
   pub is-home-loaded : (r : ℕ) → l ≡ loaded f h j → l ≡ true → r ≡ fileStart f h j → eqb r s ≡ isHome f h s j
@@ -141,37 +116,11 @@ module _ (f : List ℕ) (h : Header) (name : List ℕ) (j : ℕ) (l : Bool) wher
 
 -- ---- lists of one word a section
 module _ (f : List ℕ) (h : Header) where
-  length-starts : (n : ℕ) → length (startsTo f h n) ≡ n
-  unfolding startsTo
-  length-starts zero = refl
-  length-starts (suc n) = simp (length-append, length-starts n) (omega arith)
-
-  pub starts-none : (l : List ℕ) → l ≡ splice l 0 (startsTo f h 0)
-  unfolding splice startsTo
-  starts-none l = refl
-
   pub starts-again : (l b b′ : List ℕ) (i x : ℕ) → b ≡ splice l 0 (startsTo f h i) → x ≡ startAt f h i → b′ ≡ splice b i (x % 2 ^ 32 ∷ []) → b′ ≡ splice l 0 (startsTo f h (i + 1))
-  unfolding startsTo
-  starts-again l b b′ i x e q d = rw (d, e, splice-next l 0 (startsTo f h i) (x % 2 ^ 32 ∷ []) i (let z = length-starts i in omega arith), q, add-one)
-
-  pub starts-end : (l b : List ℕ) (i n m : ℕ) → b ≡ splice l 0 (startsTo f h i) → i ≤ n → n ≤ i → n ≡ m → b ≡ splice l 0 (startsTo f h m)
-  starts-end l b i n m e a c q = let z : i ≡ n = omega arith in cc
-
-  length-records : (n : ℕ) → length (recordsTo f h n) ≡ n
-  unfolding recordsTo
-  length-records zero = refl
-  length-records (suc n) = simp (length-append, length-records n) (omega arith)
-
-  pub records-none : (l : List ℕ) → l ≡ splice l 0 (recordsTo f h 0)
-  unfolding splice recordsTo
-  records-none l = refl
+  starts-again l b b′ i x e q d = fill-again (λ k. startAt f h k % 2 ^ 32) l b b′ i (x % 2 ^ 32) e (rw q) d
 
   pub records-again : (l b b′ : List ℕ) (i x : ℕ) → b ≡ splice l 0 (recordsTo f h i) → x ≡ homeRecord f h (homeOf f h i) → b′ ≡ splice b i (x ∷ []) → b′ ≡ splice l 0 (recordsTo f h (i + 1))
-  unfolding recordsTo
-  records-again l b b′ i x e q d = rw (d, e, splice-next l 0 (recordsTo f h i) (x ∷ []) i (let z = length-records i in omega arith), q, add-one)
-
-  pub records-end : (l b : List ℕ) (i n m : ℕ) → b ≡ splice l 0 (recordsTo f h i) → i ≤ n → n ≤ i → n ≡ m → b ≡ splice l 0 (recordsTo f h m)
-  records-end l b i n m e a c q = let z : i ≡ n = omega arith in cc
+  records-again l b b′ i x e q d = fill-again (λ k. homeRecord f h (homeOf f h k)) l b b′ i x e q d
 
   -- ---- the first record that passes a test, by its number in the table
   module _ (i c : ℕ) (l : Bool) where
@@ -212,20 +161,20 @@ module _ (f : List ℕ) (h : Header) where
     unfolding firstIn homeRecord pick
     at-none x k z d = let e : n - j ≡ 0 = omega arith in rw (← d, e, z)
 
-pub ruleset starts-loop = (starts-none, starts-again, starts-end)
+pub ruleset starts-loop = (fill-none, starts-again, fill-end)
 
-pub ruleset records-loop = (records-none, records-again, records-end)
+pub ruleset records-loop = (fill-none, records-again, fill-end)
 
 pub ruleset next-records = (next-record-yes, next-record-no)
 
-pub ruleset at-loop = (record-none, count-again, count-most, first-begin, first-other, at-here, at-undef, at-none)
+pub ruleset at-loop = (count-none, count-again, count-most, first-begin, first-other, at-here, at-undef, at-none)
 
 pub ruleset next-ways = (next-loaded, next-unloaded, is-home-loaded, is-home-unloaded, is-named-loaded, is-named-unloaded)
 
 pub ruleset start-loop = (start-none, start-again, start-end)
 
-pub ruleset record-loop = (record-none, record-loaded, record-unloaded, record-end)
+pub ruleset record-loop = (count-none, count-yes, count-no, record-end)
 
 pub ruleset first-loop = (start-none, start-again, first-begin, first-here, first-other, first-undef, first-none, first-undef-by, first-none-by)
 
-pub ruleset homes-loop = (homes-none, homes-again, homes-end)
+pub ruleset homes-loop = (fill-none, homes-again, fill-end)

@@ -5,7 +5,7 @@ use mathlib.Core.Logic.{⊎-elim}
 use Prim.Native.Nat.{ℕ, zero, suc, _+_, _≤_, _<_}
 use native.Mathlib.Nat.{eq-or-lt-of-le}
 use native.Mathlib.Omega.{arith}
-use Rattle.util.specs.Pick.{pick, le-or-lt}
+use Rattle.util.specs.Pick.{pick, le-or-lt, not-both}
 use Rattle.layout.specs.declared.Home.{Home}
 use Rattle.layout.specs.declared.Home.the-variants.{At, Undef, Nowhere}
 use Rattle.layout.specs.Home.{firstIn}
@@ -80,10 +80,6 @@ pub record FoundBy (p : ℕ → Bool) (u : Bool) (n i : ℕ) : Type 0 where
   pub section : ℕ
   pub is : firstIn p u 0 n ≡ At section
   pub not-behind : section ≤ i
-
--- no test says both
-pub not-both : {A : Type 0} (b : Bool) → b ≡ true → b ≡ false → A
-not-both b t e = let z : _≡_ {A = ℕ} 0 1 = cc in absurd (omega arith)
 
 module _ (p : ℕ → Bool) (u : Bool) (n i : ℕ) (inside : i < n) (passes : p i ≡ true) where
   found-case : (x : Home) → firstIn p u 0 n ≡ x → FoundBy p u n i

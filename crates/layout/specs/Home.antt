@@ -1,9 +1,10 @@
 -- The home of a file section: the first table record with the same file start, UNDEF's among them, whose file start is 0 (01, "Layout, slots and fixups").
-use mathlib.Core.Bool.{Bool, true, false, _&&_}
-use mathlib.Core.List.{List, [], _∷_, _++_}
+use mathlib.Core.Bool.{Bool, _&&_}
+use mathlib.Core.List.{List}
 use Prim.Native.Nat.{ℕ, zero, suc, _+_, _%_, _^_}
 use lib.Dec.{eqb}
 use Rattle.util.specs.Pick.{pick}
+use Rattle.util.specs.Prefix.{listTo}
 use Rattle.object.specs.declared.Header.{Header}
 use Rattle.object.specs.Section.{loaded, fileStart}
 use Rattle.names.specs.Bytes.{sameBytes, UNDEF}
@@ -47,18 +48,16 @@ module _ (f : List ℕ) (h : Header) where
   homeRecord Undef = recordOf f h (h .sections)
   homeRecord Nowhere = 0
 
-  -- what is kept of section i's home: its start and one, or 0 where it has none
+  -- what is kept of a home: its start and one, or 0 where there is none
   unfoldable pub homeCell : Home → ℕ
   homeCell (At j) = startAt f h j + 1
   homeCell Undef = undefStart f h + 1
   homeCell Nowhere = 0
 
   -- the cells of the sections below i, in words of 32 bits: where refusal 8 does not apply, every cell fits (`cell-fits`)
-  unfoldable pub homesTo : ℕ → List ℕ
-  homesTo zero = []
-  homesTo (suc i) = homesTo i ++ (homeCell (homeOf i) % 2 ^ 32 ∷ [])
+  abbrev pub homesTo : ℕ → List ℕ
+  homesTo n = listTo (λ i. homeCell (homeOf i) % 2 ^ 32) n
 
   -- the table records of their homes
-  unfoldable pub recordsTo : ℕ → List ℕ
-  recordsTo zero = []
-  recordsTo (suc i) = recordsTo i ++ (homeRecord (homeOf i) ∷ [])
+  abbrev pub recordsTo : ℕ → List ℕ
+  recordsTo n = listTo (λ i. homeRecord (homeOf i)) n

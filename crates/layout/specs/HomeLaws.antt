@@ -1,16 +1,16 @@
 -- What a home is, for every file and every header, and what the list of the sections' homes holds (01, "Layout, slots and fixups").
 use mathlib.Core.Path.{_≡_, refl, ap, _∙_}
 use mathlib.Core.Bool.{Bool, true, false}
-use mathlib.Core.List.{List, [], _∷_}
+use mathlib.Core.List.{List}
 use mathlib.Core.Logic.{⊎-elim}
-use Prim.Native.Nat.{ℕ, zero, suc, _+_, _%_, _^_, _≤_, _<_}
-use native.Mathlib.Nat.{not-suc-le-zero, le-of-suc-le-suc, eq-or-lt-of-le, mod-eq-of-lt}
+use Prim.Native.Nat.{ℕ, _+_, _%_, _^_, _≤_, _<_}
+use native.Mathlib.Nat.{eq-or-lt-of-le, mod-eq-of-lt}
 use native.Mathlib.Omega.{arith}
 use lib.Dec.{eqb}
-use lib.ListN.{length, getD, length-append, List·getD-append, List·getD-eq-default}
-use lib.Seq.{getD-append-seam}
+use lib.ListN.{getD}
 use borrow.Author.Tests.{eqb-true, eq-eqb}
-use Rattle.util.specs.Pick.{pick, and-left, and-right, and-both}
+use Rattle.util.specs.Pick.{pick, and-left, and-right, and-both, not-both}
+use Rattle.util.specs.Prefix.{list-at, list-past}
 use Rattle.object.specs.declared.Header.{Header}
 use Rattle.object.specs.Section.{loaded, uninitialized, fileStart}
 use Rattle.layout.specs.declared.Home.{Home}
@@ -18,7 +18,7 @@ use Rattle.layout.specs.declared.Home.the-variants.{At, Undef, Nowhere}
 use Rattle.layout.specs.Layout.{startAt, undefStart, mappedPages}
 use Rattle.layout.specs.LayoutLaws.{starts-in-order, undef-fits}
 use Rattle.layout.specs.Home.{firstIn, isHome, homeAt, homeOf, homeStart, homeCell, homesTo}
-use Rattle.layout.specs.FirstLaws.{found-at, found-undef, found-nowhere, found-by, not-both}
+use Rattle.layout.specs.FirstLaws.{found-at, found-undef, found-nowhere, found-by}
 
 -- ---- what a home is
 -- no loaded section below n has section i's file start
@@ -138,24 +138,13 @@ module _ (f : List ℕ) (h : Header) where
         mod-eq-of-lt (omega arith)
 
   -- ---- the list of the sections' homes
-  -- it has a cell for each section
-  pub length-homes : (n : ℕ) → length (homesTo f h n) ≡ n
-  unfolding homesTo
-  length-homes zero = refl
-  length-homes (suc n) = simp (length-append, length-homes n) (omega arith)
-
   -- cell i is that of section i's home, in 32 bits
   pub homes-at : (n i : ℕ) → i < n → getD (homesTo f h n) i 0 ≡ homeCell f h (homeOf f h i) % 2 ^ 32
-  unfolding homesTo
-  homes-at zero i q = absurd (not-suc-le-zero q)
-  homes-at (suc n) i q =
-      ⊎-elim (λ e. rw e (rw (length-homes n) at (getD-append-seam (homesTo f h n) (homeCell f h (homeOf f h n) % 2 ^ 32) [] 0)))
-      (λ lt. List·getD-append (homesTo f h n) (homeCell f h (homeOf f h n) % 2 ^ 32 ∷ []) 0 i (rw (length-homes n) lt) ∙ homes-at n i lt)
-      (eq-or-lt-of-le (le-of-suc-le-suc q))
+  homes-at n i q = list-at (λ k. homeCell f h (homeOf f h k) % 2 ^ 32) 0 n i q
 
   -- behind the last cell it reads as 0
   pub homes-past : (n i : ℕ) → n ≤ i → getD (homesTo f h n) i 0 ≡ 0
-  homes-past n i q = List·getD-eq-default (homesTo f h n) 0 {n = i} (rw (length-homes n) q)
+  homes-past n i q = list-past (λ k. homeCell f h (homeOf f h k) % 2 ^ 32) 0 n i q
 
   -- where refusal 8 does not apply, the 32 bits keep all of it
   pub homes-exact : (n i : ℕ) → mappedPages f h ≤ 4096 → i < n → getD (homesTo f h n) i 0 ≡ homeCell f h (homeOf f h i)

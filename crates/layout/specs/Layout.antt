@@ -1,12 +1,16 @@
 -- Where sections lie in the image, in offsets from the base (01, "Layout, slots and fixups").
-use mathlib.Core.List.{List, [], _∷_, _++_}
-use Prim.Native.Nat.{ℕ, zero, suc, _+_, _*_, _%_, _^_}
+use mathlib.Core.List.{List}
+use Prim.Native.Nat.{ℕ, zero, suc, _+_, _%_, _^_}
 use Rattle.util.specs.Pick.{pick}
 use Rattle.util.specs.Align.{roundUp}
-use Rattle.util.specs.Prefix.{countTo}
+use Rattle.util.specs.Prefix.{countTo, listTo}
 use Rattle.arch.specs.Page.{PAGE-SIZE, pageOf}
 use Rattle.object.specs.declared.Header.{Header}
 use Rattle.object.specs.Section.{loaded, rangeLength}
+
+-- the bytes of an extern slot
+abbrev pub SLOT-SIZE : ℕ
+SLOT-SIZE = 4
 
 module _ (f : List ℕ) (h : Header) where
   -- the page boundary behind section i, if it is loaded and starts at `at`; an unloaded one takes no room
@@ -18,7 +22,7 @@ module _ (f : List ℕ) (h : Header) where
   startAt zero = 0
   startAt (suc i) = nextStart i (startAt i)
 
-  -- UNDEF, which holds the extern slots, is one page behind them
+  -- UNDEF, which holds the extern slots, is one page behind them; slot e stands at its start + 4 e
   abbrev pub undefStart : ℕ
   undefStart = startAt (h .sections)
 
@@ -38,6 +42,5 @@ module _ (f : List ℕ) (h : Header) where
   nextRecord i count = pick (loaded f h i) (count + 1) count
 
   -- the starts of the sections below i, in words of 32 bits: where refusal 8 does not apply, every start fits (`starts-fit`)
-  unfoldable pub startsTo : ℕ → List ℕ
-  startsTo zero = []
-  startsTo (suc i) = startsTo i ++ (startAt i % 2 ^ 32 ∷ [])
+  abbrev pub startsTo : ℕ → List ℕ
+  startsTo n = listTo (λ i. startAt i % 2 ^ 32) n

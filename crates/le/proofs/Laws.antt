@@ -1,10 +1,10 @@
 -- What the readers and the writing loops ask. Assumes nothing.
-use mathlib.Core.Path.{_≡_, refl, sym, ap, _∙_}
+use mathlib.Core.Path.{_≡_, refl, sym, _∙_}
 use mathlib.Core.List.{List, [], _∷_}
 use mathlib.Core.Logic.{⊎-elim}
 use Prim.Native.Nat.{ℕ, zero, suc, _+_, _-_, _*_, _/_, _%_, _^_, _≤_, _<_, min}
 use native.Mathlib.Omega.{arith}
-use native.Mathlib.Nat.{zero-add, add-zero, pow-suc, pow-zero, div-one, div-div-eq-div-mul, not-suc-le-zero, mul-comm}
+use native.Mathlib.Nat.{add-zero, pow-suc, pow-zero, div-one, div-div-eq-div-mul, not-suc-le-zero, mul-comm}
 use native.Mathlib.Numerals.{add-one, towards-suc}
 use lib.ListN.{length, getD, set, take, drop, replicate, length-drop, length-set, length-replicate, drop-of-length-le, List·getD-eq-default}
 use lib.Seq.{drop-cons, take-all, take-nil}

@@ -1,14 +1,16 @@
 -- Numbers in a list of bytes, the lowest byte first, and runs of bytes put into a list. A list reads as 0 past its end, and nothing is put there.
-use mathlib.Core.Path.{_≡_, refl, sym, ap, _∙_}
+use mathlib.Core.Path.{_≡_, refl, ap, _∙_}
 use mathlib.Core.List.{List, [], _∷_, _++_}
 use mathlib.Core.Logic.{⊎-elim}
-use Prim.Native.Nat.{ℕ, zero, suc, _+_, _-_, _*_, _/_, _%_, _^_, _≤_, _<_}
+use Prim.Native.Nat.{ℕ, zero, suc, _+_, _*_, _/_, _%_, _^_, _≤_, _<_}
 use native.Mathlib.Omega.{arith}
-use native.Mathlib.Nat.{zero-add, add-zero, suc-add, add-suc, pow-suc, pow-zero, div-one, div-div-eq-div-mul, mul-comm, le-of-lt}
+use native.Mathlib.Nat.{zero-add, add-zero, suc-add, add-suc, pow-suc, pow-zero, one-le-pow, mod-lt}
 use native.Mathlib.Numerals.{add-one}
-use lib.ListN.{length, getD, set, take, drop, replicate, length-set, length-drop, length-take, length-replicate, getD-replicate, drop-of-length-le, List·getD-eq-default}
-use lib.Seq.{sets, length-sets, sets-eq, set-out, getD-set-other, getD-set-same, set-comm, drop-cons, getD-take, getD-drop, ext-getD}
+use lib.ListN.{length, getD, set, take, drop, replicate, length-set, length-drop, length-take, length-replicate}
+use lib.Seq.{sets, length-sets, sets-eq, set-out, getD-set-other, getD-set-same, set-comm, getD-take, getD-drop, ext-getD}
+use lib.Arith.{mod-mul}
 use Rattle.util.specs.Pick.{le-or-lt}
+use Rattle.util.specs.Prefix.{listTo, length-list}
 
 -- the number whose n bytes stand in l from i
 unfoldable pub get : ℕ → List ℕ → ℕ → ℕ
@@ -29,7 +31,7 @@ unfoldable pub part : List ℕ → ℕ → ℕ → List ℕ
 part l i n = take n (drop i l)
 
 -- each element is a byte, as in every slice of bytes
-pub IsBytes : List ℕ → Type 0
+abbrev pub IsBytes : List ℕ → Type 0
 IsBytes l = (i : ℕ) → getD l i 0 < 256
 
 -- ---- splice: the length is kept; what stands before and after is as it was; what was put is there
@@ -60,6 +62,14 @@ splice-in l i (a ∷ vs) (suc j) h k =
     let e : i + suc j ≡ suc i + j = omega arith in
     rw e (splice-in (set l i a) (suc i) vs j (omega arith) (rw length-set (omega arith)))
 
+pub splice-out : (l : List ℕ) (i : ℕ) (vs : List ℕ) (k : ℕ) → (i ≤ k → k < i + length vs → ⊥) → getD (splice l i vs) k 0 ≡ getD l k 0
+splice-out l i vs k h =
+    ⊎-elim
+    (λ (z : i ≤ k).
+    ⊎-elim (λ (y : i + length vs ≤ k). splice-above l i vs k y) (λ (y : k < i + length vs). absurd (h z y)) (le-or-lt (i + length vs) k))
+    (λ (z : k < i). splice-below l i vs k z)
+    (le-or-lt i k)
+
 -- past the end nothing is put
 pub splice-past : (l : List ℕ) (i : ℕ) (vs : List ℕ) → length l ≤ i → splice l i vs ≡ l
 unfolding splice
@@ -88,6 +98,21 @@ pub splice-front : (l vs : List ℕ) → length vs ≤ length l → splice l 0 v
 unfolding splice
 splice-front l vs h = sets-eq vs l 0 (omega arith) ∙ rw zero-add
 
+-- a loop that puts an element a turn, from the front on
+module _ (g : ℕ → ℕ) (l : List ℕ) where
+  pub fill-none : l ≡ splice l 0 (listTo g 0)
+  unfolding splice listTo
+  fill-none = refl
+
+  pub fill-again : (b b′ : List ℕ) (i x : ℕ) → b ≡ splice l 0 (listTo g i) → x ≡ g i → b′ ≡ splice b i (x ∷ []) → b′ ≡ splice l 0 (listTo g (i + 1))
+  unfolding listTo
+  fill-again b b′ i x e q d = rw (d, e, splice-next l 0 (listTo g i) (x ∷ []) i (let z = length-list g i in omega arith), q, add-one)
+
+  pub fill-end : (b : List ℕ) (i n m : ℕ) → b ≡ splice l 0 (listTo g i) → i ≤ n → n ≤ i → n ≡ m → b ≡ splice l 0 (listTo g m)
+  fill-end b i n m e a c q = let z : i ≡ n = omega arith in cc
+
+pub ruleset fill-loop = (fill-none, fill-again, fill-end)
+
 -- ---- numbers: `get` looks at n places only, and reads back what `le` gives
 pub length-le : (n v : ℕ) → length (le n v) ≡ n
 unfolding le
@@ -113,6 +138,20 @@ get-le (suc n) v h =
     let r : get n (le n (v / 256)) 0 ≡ v / 256 = get-le n (v / 256) (omega arith) in
     omega arith
 
+-- the low n bytes do not see what is above them, so they give a number's low part
+pub le-low : (n v : ℕ) → le n (v % 256 ^ n) ≡ le n v
+unfolding le
+le-low zero v = refl
+le-low (suc n) v =
+    let d : v % 256 ^ suc n ≡ (v / 256 % 256 ^ n) * 256 + v % 256
+    = ap (λ (m : ℕ). v % m) (pow-suc 256 n) ∙ mod-mul v {m = 256 ^ n} {c = 256} (one-le-pow n 256 (omega arith)) (omega arith) in
+    let a : v % 256 ^ suc n % 256 ≡ v % 256 = omega arith in
+    let b : v % 256 ^ suc n / 256 ≡ v / 256 % 256 ^ n = omega arith in
+    rw (a, b, le-low n (v / 256))
+
+pub get-low : (n v : ℕ) → get n (le n v) 0 ≡ v % 256 ^ n
+get-low n v = rw (← le-low n v) (get-le n (v % 256 ^ n) (mod-lt v (one-le-pow n 256 (omega arith))))
+
 -- a number that was put is read back; one that stands apart from a run is as it was
 pub get-splice : (n v : ℕ) (l : List ℕ) (i : ℕ) → i + n ≤ length l → v < 256 ^ n → get n (splice l i (le n v)) i ≡ v
 get-splice n v l i f h =
@@ -124,9 +163,28 @@ get-before n l i vs k h = get-same n (splice l i vs) l k k (λ j p. splice-below
 pub get-after : (n : ℕ) (l : List ℕ) (i : ℕ) (vs : List ℕ) (k : ℕ) → i + length vs ≤ k → get n (splice l i vs) k ≡ get n l k
 get-after n l i vs k h = get-same n (splice l i vs) l k k (λ j p. splice-above l i vs (k + j) (omega arith))
 
+-- ---- bytes: those that are put among bytes leave bytes, and a number's are bytes
+set-bytes : (l : List ℕ) (i a : ℕ) → IsBytes l → a < 256 → IsBytes (set l i a)
+set-bytes [] i a b h k = b k
+set-bytes (x ∷ l) zero a b h zero = h
+set-bytes (x ∷ l) zero a b h (suc k) = b (suc k)
+set-bytes (x ∷ l) (suc i) a b h zero = b 0
+set-bytes (x ∷ l) (suc i) a b h (suc k) = set-bytes l i a (λ j. b (suc j)) h k
+
+pub splice-bytes : (l : List ℕ) (i : ℕ) (vs : List ℕ) → IsBytes l → IsBytes vs → IsBytes (splice l i vs)
+unfolding splice
+splice-bytes l i [] b v k = b k
+splice-bytes l i (a ∷ vs) b v k = splice-bytes (set l i a) (suc i) vs (set-bytes l i a b (v 0)) (λ j. v (suc j)) k
+
+pub le-bytes : (n v : ℕ) → IsBytes (le n v)
+unfolding le
+le-bytes zero v i = omega arith
+le-bytes (suc n) v zero = omega arith
+le-bytes (suc n) v (suc i) = le-bytes n (v / 256) i
+
 -- n bytes are below 256 ^ n
 pub get-below : (n : ℕ) (l : List ℕ) (i : ℕ) → IsBytes l → get n l i < 256 ^ n
-unfolding get IsBytes
+unfolding get
 get-below zero l i b = rw pow-zero (omega arith)
 get-below (suc n) l i b =
     let e : 256 ^ suc n ≡ 256 ^ n * 256 = pow-suc _ _ in
@@ -147,6 +205,10 @@ pub part-at : (l : List ℕ) (i n k : ℕ) → k < n → getD (part l i n) k 0 �
 unfolding part
 part-at l i n k h = rw (getD-take, getD-drop)
 
+pub part-front : (l : List ℕ) (n : ℕ) → part l 0 n ≡ take n l
+unfolding part
+part-front l n = refl
+
 pub part-none : (l : List ℕ) (i : ℕ) → part l i 0 ≡ []
 unfolding part
 part-none l i = refl
@@ -157,3 +219,10 @@ part-splice l i vs h =
     let e : length (part (splice l i vs) i (length vs)) ≡ length vs = length-part (splice l i vs) i (length vs) (rw length-splice h) in
     ext-getD 0 (part (splice l i vs) i (length vs)) vs e
     (λ k p. let q : k < length vs = rw e at p in part-at (splice l i vs) i (length vs) k q ∙ splice-in l i vs k q (omega arith))
+
+-- a list that a loop has put at the front of a cleared array, taken from it again
+pub filled : (g : ℕ → ℕ) (m w : List ℕ) (size n : ℕ) → m ≡ splice (replicate size 0) 0 (listTo g n) → n ≤ size → w ≡ part m 0 n → w ≡ listTo g n
+filled g m w size n e k q =
+    let r : length {A = ℕ} (replicate size 0) ≡ size = length-replicate {A = ℕ} size 0 in
+    let l : length (listTo g n) ≡ n = length-list g n in
+    q ∙ ap (λ (x : List ℕ). part x 0 n) e ∙ rw l at (part-splice (replicate size 0) 0 (listTo g n) (omega arith))

@@ -1,19 +1,21 @@
 -- The ways through the code. Assumes nothing.
 use mathlib.Core.Path.{_≡_, refl, sym, ap, _∙_}
-use mathlib.Core.Bool.{Bool, true, false, _&&_}
+use mathlib.Core.Bool.{Bool, true, false}
 use mathlib.Core.List.{List, [], _∷_, _++_}
-use Prim.Native.Nat.{ℕ, zero, suc, _+_, _*_, _/_, _%_, _^_, _≤_, _<_}
+use Prim.Native.Nat.{ℕ, zero, suc, _+_, _*_, _/_, _%_, _≤_, _<_}
 use native.Mathlib.Omega.{arith}
+use native.Mathlib.Nat.{mul-comm, suc-mul, mul-le-mul-left, div-mul-le-self, lt-div-mul-add}
+use mathlib.Core.Logic.{⊎-elim}
 use lib.Dec.{eqb, leb}
 use lib.ListN.{length}
 use borrow.Author.Tests.{le-leb, lt-leb, leb-true, ne-eqb}
-use Rattle.util.specs.Pick.{pick, leb-same, and-right}
+use Rattle.util.specs.Pick.{pick, le-or-lt, leb-same, and-right}
 use Rattle.survey.specs.declared.answer.Counts.{Counts}
 use Rattle.image.specs.MarkWords.{markCount}
 use Rattle.load.specs.declared.Lengths.{Lengths}
 use mathlib.Core.Path.{subst, fun-ext}
-use lib.ListN.{take, replicate, length-append, length-take}
-use Rattle.le.specs.Le.{splice, part}
+use lib.ListN.{replicate, length-take}
+use Rattle.le.specs.Le.{splice, part, part-front, filled}
 use Rattle.object.specs.declared.Header.{Header}
 use Rattle.layout.specs.Layout.{startsTo}
 use Rattle.layout.specs.Home.{recordsTo}
@@ -28,20 +30,17 @@ use Rattle.object.specs.Section.{relocationCount}
 use Rattle.externs.specs.Bisect.{bisect}
 use Rattle.fixups.specs.Outcome.{outcome}
 use Rattle.tables.specs.Relocations.{fixTable, skipTable, BothWritten}
-use Rattle.arch.specs.Machine.{archOf}
 use Rattle.refusal.specs.Refusal.{PAGES, EXTERNS, PLACE, BASE, STORAGE}
-use Rattle.layout.specs.Layout.{undefStart, mappedPages}
+use Rattle.layout.specs.Layout.{mappedPages}
 use Rattle.survey.specs.declared.answer.Survey.{Survey}
 use Rattle.survey.specs.declared.answer.Survey.the-variants.{Accepted, Refused}
-use Rattle.survey.specs.Survey.{archBy, Check, check, firstFailed, recordChecks, externChecks, targetChecks, checks, counts, tally, tallyBy, countsBy, ownMap, answerBy}
+use Rattle.survey.specs.Survey.{Check, check, firstFailed, recordChecks, externChecks, targetChecks, checks, counts, tally, tallyBy, countsBy, ownMap, homes, answerBy}
 use Rattle.survey.specs.Surveying.{Fits, plannedBy}
-use Rattle.survey.specs.SurveyLaws.{check-holds, checks-hold, failed-first, Ordered, ordered, records-rest, says-refused, tells-accepted, tells-refused, fits-is, filled}
+use Rattle.survey.specs.SurveyLaws.{check-holds, checks-hold, failed-first, Ordered, ordered, records-rest, says-refused, tells-accepted, tells-refused}
 use Rattle.checks.specs.Checks.{pagesOk}
 use Rattle.object.specs.Format.{headerOf}
 use Rattle.object.specs.Symbol.{primaries}
-use Rattle.object.specs.SymbolLaws.{length-primaries}
 use Rattle.layout.specs.Home.{homesTo}
-use Rattle.layout.specs.HomeLaws.{length-homes}
 use Rattle.externs.specs.declared.Names.{Names}
 use Rattle.externs.specs.declared.Names.the-variants.{TooMany, Count}
 use Rattle.externs.specs.Externs.{externs, externsBy, Holds}
@@ -49,7 +48,7 @@ use Rattle.externs.specs.ExternLaws.{over-length, count-room, count-list}
 use Rattle.externs.specs.Slot.{slotOf}
 use Rattle.externs.specs.BisectLaws.{bisect-externs}
 use Rattle.fixups.specs.declared.Tally.{Tally}
-use Rattle.load.specs.Loading.{LayoutIs, NamesAre, Limits, Planned, storage, roomCode, plannedCounts, plannedCode, homesOf, LoadsWith, LoadsAt}
+use Rattle.load.specs.Loading.{LayoutIs, NamesAre, Limits, Planned, storage, roomCode, plannedCounts, plannedCode, LoadsWith, LoadsAt}
 
 -- ---- 12
 module _ (base : ℕ) where
@@ -71,52 +70,52 @@ low base e =
     omega arith
 
 -- ---- 13
-by-4096 : (n len : ℕ) → leb n (len / 4096) ≡ leb (4096 * n) len
-by-4096 n len = leb-same n (len / 4096) (4096 * n) len (λ k. omega arith) (λ k. omega arith)
-
-by-8 : (n len : ℕ) → leb n (len / 8) ≡ leb (8 * n) len
-by-8 n len = leb-same n (len / 8) (8 * n) len (λ k. omega arith) (λ k. omega arith)
-
-by-64 : (n len : ℕ) → leb n (len / 64) ≡ leb (64 * n) len
-by-64 n len = leb-same n (len / 64) (64 * n) len (λ k. omega arith) (λ k. omega arith)
-
-by-48 : (n len : ℕ) → leb n (len / 48) ≡ leb (48 * n) len
-by-48 n len = leb-same n (len / 48) (48 * n) len (λ k. omega arith) (λ k. omega arith)
-
-by-32 : (n len : ℕ) → leb n (len / 32) ≡ leb (32 * n) len
-by-32 n len = leb-same n (len / 32) (32 * n) len (λ k. omega arith) (λ k. omega arith)
-
-by-24 : (n len : ℕ) → leb n (len / 24) ≡ leb (24 * n) len
-by-24 n len = leb-same n (len / 24) (24 * n) len (λ k. omega arith) (λ k. omega arith)
+-- a count fits the whole records of a length where its bytes fit the length
+by-size : (s n len : ℕ) → 0 < s → leb n (len / s) ≡ leb (s * n) len
+by-size s n len h =
+    leb-same n (len / s) (s * n) len
+    (λ k.
+    let a : s * n ≤ s * (len / s) = mul-le-mul-left s k in
+    let b : len / s * s ≤ len = div-mul-le-self _ _ in
+    let c : s * (len / s) ≡ len / s * s = mul-comm _ _ in
+    omega arith)
+    (λ k.
+    ⊎-elim (λ (l : n ≤ len / s). l)
+    (λ (l : len / s < n).
+    let a : s * suc (len / s) ≤ s * n = mul-le-mul-left s l in
+    let b : len < len / s * s + s = lt-div-mul-add h in
+    let c : s * suc (len / s) ≡ len / s * s + s = mul-comm s (suc (len / s)) ∙ suc-mul (len / s) s in
+    absurd (omega arith))
+    (le-or-lt n (len / s)))
 
 module _ (c : Counts) (l : Lengths) where
   pub layout-image : leb (c .pages) (l .image / 4096) ≡ false → false ≡ layoutRoom c l
   unfolding layoutRoom
-  layout-image e = rw (← by-4096 (c .pages) (l .image), e)
+  layout-image e = rw (← by-size 4096 (c .pages) (l .image) (omega arith), e)
 
   pub layout-marks : leb (c .pages) (l .image / 4096) ≡ true → leb ((c .pages + 63) / 64) (l .marks / 8) ≡ false → false ≡ layoutRoom c l
   unfolding layoutRoom
-  layout-marks e d = rw (← by-4096 (c .pages) (l .image), e, ← by-8 ((c .pages + 63) / 64) (l .marks), d)
+  layout-marks e d = rw (← by-size 4096 (c .pages) (l .image) (omega arith), e, ← by-size 8 ((c .pages + 63) / 64) (l .marks) (omega arith), d)
 
   pub layout-sections : leb (c .pages) (l .image / 4096) ≡ true → leb ((c .pages + 63) / 64) (l .marks / 8) ≡ true → leb (c .sections) (l .sections / 64) ≡ layoutRoom c l
   unfolding layoutRoom
-  layout-sections e d = rw (← by-4096 (c .pages) (l .image), e, ← by-8 ((c .pages + 63) / 64) (l .marks), d, ← by-64 (c .sections) (l .sections))
+  layout-sections e d = rw (← by-size 4096 (c .pages) (l .image) (omega arith), e, ← by-size 8 ((c .pages + 63) / 64) (l .marks) (omega arith), d, ← by-size 64 (c .sections) (l .sections) (omega arith))
 
   pub lists-symbols : leb (c .symbols) (l .symbols / 48) ≡ false → false ≡ listsRoom c l
   unfolding listsRoom
-  lists-symbols e = rw (← by-48 (c .symbols) (l .symbols), e)
+  lists-symbols e = rw (← by-size 48 (c .symbols) (l .symbols) (omega arith), e)
 
   pub lists-externs : leb (c .symbols) (l .symbols / 48) ≡ true → leb (c .externs) (l .externs / 32) ≡ false → false ≡ listsRoom c l
   unfolding listsRoom
-  lists-externs e d = rw (← by-48 (c .symbols) (l .symbols), e, ← by-32 (c .externs) (l .externs), d)
+  lists-externs e d = rw (← by-size 48 (c .symbols) (l .symbols) (omega arith), e, ← by-size 32 (c .externs) (l .externs) (omega arith), d)
 
   pub lists-fixups : leb (c .symbols) (l .symbols / 48) ≡ true → leb (c .externs) (l .externs / 32) ≡ true → leb (c .fixups) (l .fixups / 24) ≡ false → false ≡ listsRoom c l
   unfolding listsRoom
-  lists-fixups e d w = rw (← by-48 (c .symbols) (l .symbols), e, ← by-32 (c .externs) (l .externs), d, ← by-24 (c .fixups) (l .fixups), w)
+  lists-fixups e d w = rw (← by-size 48 (c .symbols) (l .symbols) (omega arith), e, ← by-size 32 (c .externs) (l .externs) (omega arith), d, ← by-size 24 (c .fixups) (l .fixups) (omega arith), w)
 
   pub lists-skips : leb (c .symbols) (l .symbols / 48) ≡ true → leb (c .externs) (l .externs / 32) ≡ true → leb (c .fixups) (l .fixups / 24) ≡ true → leb (c .skips) (l .skips / 24) ≡ listsRoom c l
   unfolding listsRoom
-  lists-skips e d w = rw (← by-48 (c .symbols) (l .symbols), e, ← by-32 (c .externs) (l .externs), d, ← by-24 (c .fixups) (l .fixups), w, ← by-24 (c .skips) (l .skips))
+  lists-skips e d w = rw (← by-size 48 (c .symbols) (l .symbols) (omega arith), e, ← by-size 32 (c .externs) (l .externs) (omega arith), d, ← by-size 24 (c .fixups) (l .fixups) (omega arith), w, ← by-size 24 (c .skips) (l .skips) (omega arith))
 
   pub room-layout : (b r : Bool) → b ≡ layoutRoom c l → b ≡ true → r ≡ listsRoom c l → r ≡ roomFor c l
   room-layout b r q e d = rw (← q, e) d
@@ -132,21 +131,11 @@ module _ (f : List ℕ) (h : Header) (base : ℕ) (starts : List ℕ) (undef pag
       → LayoutIs f h base starts undef pages n s s′ i i′ m m′
   laid-is x y z = record { sections = x; image = y; marks = z }
 
-length-starts : (f : List ℕ) (h : Header) (n : ℕ) → length (startsTo f h n) ≡ n
-unfolding startsTo
-length-starts f h zero = refl
-length-starts f h (suc n) = simp (length-append, length-starts f h n) (omega arith)
-
-length-records : (f : List ℕ) (h : Header) (n : ℕ) → length (recordsTo f h n) ≡ n
-unfolding recordsTo
-length-records f h zero = refl
-length-records f h (suc n) = simp (length-append, length-records f h n) (omega arith)
-
 module _ (f : List ℕ) (h : Header) (base : ℕ) (undef pages n : ℕ) (s s′ i i′ m m′ a w : List ℕ) where
   pub layout-is : a ≡ splice (replicate 256 0) 0 (startsTo f h (h .sections)) → h .sections ≤ 256 → w ≡ part a 0 (h .sections) → LayoutIs f h base w undef pages n s s′ i i′ m m′
       → LayoutIs f h base (startsTo f h (h .sections)) undef pages n s s′ i i′ m m′
   layout-is e k q x =
-      let g : w ≡ startsTo f h (h .sections) = filled (startsTo f h (h .sections)) a w 256 (h .sections) e (length-starts f h (h .sections)) k q in
+      let g : w ≡ startsTo f h (h .sections) = filled _ a w 256 (h .sections) e k q in
       subst (λ (l : List ℕ). LayoutIs f h base l undef pages n s s′ i i′ m m′) g x
 
 module _ (f : List ℕ) (h : Header) (base : ℕ) (map homes records : List ℕ) (undef n : ℕ) (set y y′ e e′ : List ℕ) where
@@ -157,7 +146,7 @@ module _ (f : List ℕ) (h : Header) (base : ℕ) (map homes : List ℕ) (undef 
   pub names-are : a ≡ splice (replicate 256 0) 0 (recordsTo f h (h .sections)) → h .sections ≤ 256 → w ≡ part a 0 (h .sections) → NamesAre f h base map homes w undef n set y y′ e e′
       → NamesAre f h base map homes (recordsTo f h (h .sections)) undef n set y y′ e e′
   names-are p k q x =
-      let g : w ≡ recordsTo f h (h .sections) = filled (recordsTo f h (h .sections)) a w 256 (h .sections) p (length-records f h (h .sections)) k q in
+      let g : w ≡ recordsTo f h (h .sections) = filled _ a w 256 (h .sections) p k q in
       subst (λ (l : List ℕ). NamesAre f h base map homes l undef n set y y′ e e′) g x
 
 pub ruleset parts = (laid-is, layout-is, listed-is, names-are)
@@ -175,13 +164,6 @@ stored-is a f h base map homes set undef pages n i i′ m m′ s s′ y y′ e e
 
 pub ruleset storing = (few-sections, stored-is)
 
--- ---- the numbers that are handed on
-pub planned-is : (f : List ℕ) (h : Header) (set : List ℕ) (a : Arch) (undef pages : ℕ) → Limits f h set → a ≡ archBy (archOf (h .machine)) → undef ≡ undefStart f h % 2 ^ 32 → pages ≡ mappedPages f h % 2 ^ 32
-    → Planned f h set a undef pages (length set)
-planned-is f h set a undef pages l e q p =
-    let k = l .pages in
-    record { few = l .sections; machine = e; last = omega arith; mapped = omega arith; names = refl }
-
 -- ---- 13
 module _ (c : Counts) (l : Lengths) (new s after : Storage) (b : Bool) (lens : l ≡ lengthsOf s) where
   pub room-yes : b ≡ roomFor c l → b ≡ true → after ≡ new → LoadIs (roomCode c s) c new s after (Accepted c)
@@ -195,8 +177,6 @@ module _ (c : Counts) (l : Lengths) (new s after : Storage) (b : Bool) (lens : l
   room-no q e =
       let z : roomOk c s ≡ false = ap (roomFor c) (sym lens) ∙ sym q ∙ e in
       record { says = rw z; leaves = rw z }
-
-pub ruleset rooming = (room-yes, room-no)
 
 -- ---- a refusal changes nothing; checks that pass hand on
 refused-is : (code n : ℕ) (c : Counts) (new s : Storage) → code ≡ suc n → LoadIs code c new s s (Refused (suc n))
@@ -256,10 +236,6 @@ module _ (f : List ℕ) (h : Header) (map homes set : List ℕ) (v : Survey) (is
       (sym (targets-rest (tallyBy f h map homes (bisect f h set)) (check (roomOk (plannedCounts f h map homes set) s) STORAGE ∷ []) (t .0))) y
 
 -- ---- 9
-front-is : (l : List ℕ) (n : ℕ) → part l 0 n ≡ take n l
-unfolding part
-front-is l n = refl
-
 module _ (f : List ℕ) (h : Header) (map buf : List ℕ) (r : Names) (holds : Holds (externsBy f h map) buf r) where
   pub over-is : (base : ℕ) (homes : List ℕ) (s : Storage) → r ≡ TooMany → LoadsWith f h base map homes s s (Refused EXTERNS)
   unfolding firstFailed pick
@@ -269,10 +245,10 @@ module _ (f : List ℕ) (h : Header) (map buf : List ℕ) (r : Names) (holds : H
 
   module _ (n : ℕ) (w : List ℕ) (e : r ≡ Count n) (q : w ≡ part buf 0 n) where
     names-are-those : w ≡ externsBy f h map
-    names-are-those = q ∙ front-is buf n ∙ count-list (externsBy f h map) buf r holds n e
+    names-are-those = q ∙ part-front buf n ∙ count-list (externsBy f h map) buf r holds n e
 
     short : length w ≤ 1024
-    short = rw (q, front-is buf n, length-take) (let k = count-room (externsBy f h map) buf r holds n e in omega arith)
+    short = rw (q, part-front buf n, length-take) (let k = count-room (externsBy f h map) buf r holds n e in omega arith)
 
     pub limits-are : Fits f h → Limits f h w
     limits-are k = record { sections = k .sections; pages = k .pages; names = short }
@@ -288,20 +264,20 @@ module _ (f : List ℕ) (h : Header) (map buf : List ℕ) (r : Names) (holds : H
 
 -- ---- the arrays
 module _ (f : List ℕ) (h : Header) (base : ℕ) (s after : Storage) (x : Survey) (m w : List ℕ) where
-  pub homes-are : (map : List ℕ) → m ≡ splice (replicate 256 0) 0 (homesTo f h (h .sections)) → h .sections ≤ 256 → w ≡ part m 0 (h .sections) → LoadsWith f h base map w s after x → LoadsWith f h base map (homesOf f h) s after x
+  pub homes-are : (map : List ℕ) → m ≡ splice (replicate 256 0) 0 (homesTo f h (h .sections)) → h .sections ≤ 256 → w ≡ part m 0 (h .sections) → LoadsWith f h base map w s after x → LoadsWith f h base map (homes f h) s after x
   homes-are map e k q l =
-      subst (λ (z : List ℕ). LoadsWith f h base map z s after x) (filled (homesOf f h) m w 256 (h .sections) e (length-homes f h (h .sections)) k q) l
+      subst (λ (z : List ℕ). LoadsWith f h base map z s after x) (filled _ m w 256 (h .sections) e k q) l
 
-  pub map-is : m ≡ splice (replicate 16384 0) 0 (primaries f h (h .symbols)) → h .symbols ≤ 16384 → w ≡ part m 0 (h .symbols) → LoadsWith f h base w (homesOf f h) s after x → LoadsWith f h base (ownMap f h) (homesOf f h) s after x
+  pub map-is : m ≡ splice (replicate 16384 0) 0 (primaries f h (h .symbols)) → h .symbols ≤ 16384 → w ≡ part m 0 (h .symbols) → LoadsWith f h base w (homes f h) s after x → LoadsWith f h base (ownMap f h) (homes f h) s after x
   map-is e k q l =
-      subst (λ (z : List ℕ). LoadsWith f h base z (homesOf f h) s after x) (filled (ownMap f h) m w 16384 (h .symbols) e (length-primaries f h (h .symbols)) k q) l
+      subst (λ (z : List ℕ). LoadsWith f h base z (homes f h) s after x) (filled _ m w 16384 (h .symbols) e k q) l
 
 -- ---- the whole
 module _ (f : List ℕ) (h : Header) (base code : ℕ) (s : Storage) (head : h ≡ headerOf f) (is : code ≡ firstFailed (recordChecks f h)) where
   abbrev behind : List Check
   behind = externChecks (length (externs f h)) ++ (targetChecks (tally f h) ++ (check (roomOk (counts f h) s) STORAGE ∷ []))
 
-  pub at-yes : (after : Storage) (x : Survey) → code ≡ 0 → LoadsWith f h base (ownMap f h) (homesOf f h) s after x → LoadsAt f base s after x
+  pub at-yes : (after : Storage) (x : Survey) → code ≡ 0 → LoadsWith f h base (ownMap f h) (homes f h) s after x → LoadsAt f base s after x
   at-yes after x z l =
       let o : Ordered f h = ordered f h [] (sym is ∙ z) in
       let b : bisect f h (externs f h) ≡ slotOf f h (externs f h) = fun-ext (bisect-externs f h (ownMap f h)) in
@@ -332,8 +308,6 @@ module _ (f : List ℕ) (base : ℕ) (s : Storage) (b : Bool) (is : b ≡ baseOk
 pub ruleset planning = (planned-refused, planned-pages, planned-accepted)
 
 pub ruleset naming = (over-is, limits-are, fit-is)
-
-pub ruleset arrays = (homes-are, map-is)
 
 pub ruleset whole = (at-yes, at-no)
 

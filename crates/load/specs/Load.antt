@@ -2,7 +2,7 @@
 use mathlib.Core.Path.{_≡_}
 use mathlib.Core.Bool.{Bool, _&&_}
 use mathlib.Core.List.{List, [], _∷_, _++_}
-use Prim.Native.Nat.{ℕ, _+_, _*_, _%_}
+use Prim.Native.Nat.{ℕ, _*_, _%_}
 use lib.Dec.{leb, eqb}
 use lib.ListN.{length}
 use Rattle.refusal.specs.Refusal.{BASE, STORAGE}
@@ -14,6 +14,7 @@ use Rattle.object.specs.Format.{headerOf}
 use Rattle.object.specs.Section.{relocationCount}
 use Rattle.layout.specs.Layout.{undefStart, mappedPages, startsTo}
 use Rattle.layout.specs.Home.{recordsTo}
+use Rattle.checks.specs.Limits.{MAX-BASE}
 use Rattle.externs.specs.declared.Found.{Found}
 use Rattle.externs.specs.Externs.{externs}
 use Rattle.externs.specs.Slot.{slotOf}
@@ -21,11 +22,11 @@ use Rattle.survey.specs.declared.answer.Counts.{Counts}
 use Rattle.survey.specs.declared.answer.Survey.{Survey}
 use Rattle.survey.specs.Survey.{Check, check, firstFailed, checks, counts, ownMap, homes, outcomesBy, answerBy}
 use Rattle.load.specs.declared.Lengths.{Lengths}
-use Rattle.tables.specs.Sections.{sectionTable}
-use Rattle.tables.specs.Symbols.{symbolTable}
-use Rattle.tables.specs.Externs.{externTable}
-use Rattle.tables.specs.Relocations.{fixTable, skipTable}
-use Rattle.image.specs.Laid.{laid}
+use Rattle.tables.specs.Sections.{SECTION-BYTES, sectionTable}
+use Rattle.tables.specs.Symbols.{SYMBOL-BYTES, symbolTable}
+use Rattle.tables.specs.Externs.{EXTERN-BYTES, externTable}
+use Rattle.tables.specs.Relocations.{FIXUP-BYTES, SKIP-BYTES, fixTable, skipTable}
+use Rattle.image.specs.Laid.{laidImage}
 use Rattle.image.specs.MarkWords.{markCount, markBytes}
 
 -- the seven lent buffers
@@ -38,24 +39,21 @@ pub record Storage : Type 0 where
   pub fixups : List ℕ
   pub skips : List ℕ
 
--- 12: the base is a page multiple and not above 0x7F000000
-abbrev pub MAX-BASE : ℕ
-MAX-BASE = 0x7F000000
-
+-- 12: the base is a page multiple and not above the highest
 unfoldable pub baseOk : ℕ → Bool
 baseOk base = eqb (base % PAGE-SIZE) 0 && leb base MAX-BASE
 
 -- 13: each buffer has room for what is counted
 unfoldable pub layoutRoom : Counts → Lengths → Bool
 layoutRoom c l =
-    leb (PAGE-SIZE * c .pages) (l .image) && (leb (8 * markCount (c .pages)) (l .marks) && leb (64 * c .sections) (l .sections))
+    leb (PAGE-SIZE * c .pages) (l .image) && (leb (8 * markCount (c .pages)) (l .marks) && leb (SECTION-BYTES * c .sections) (l .sections))
 
 unfoldable pub listsRoom : Counts → Lengths → Bool
 listsRoom c l =
-    leb (48 * c .symbols) (l .symbols)
-    && (leb (32 * c .externs) (l .externs)
-    && (leb (24 * c .fixups) (l .fixups)
-    && leb (24 * c .skips) (l .skips)))
+    leb (SYMBOL-BYTES * c .symbols) (l .symbols)
+    && (leb (EXTERN-BYTES * c .externs) (l .externs)
+    && (leb (FIXUP-BYTES * c .fixups) (l .fixups)
+    && leb (SKIP-BYTES * c .skips) (l .skips)))
 
 abbrev pub roomFor : Counts → Lengths → Bool
 roomFor c l = layoutRoom c l && listsRoom c l
@@ -80,7 +78,7 @@ module _ (f : List ℕ) (h : Header) (base : ℕ) (map homes set : List ℕ) (sl
   unfoldable pub storedBy : Storage → Storage
   storedBy s =
       record {
-        image = laid f h (startsTo f h (h .sections)) (mappedPages f h) base (undefStart f h) (length set) (s .image);
+        image = laidImage f h base (length set) (s .image);
         marks = splice (s .marks) 0 (markBytes (mappedPages f h) (markCount (mappedPages f h)));
         sections = splice (s .sections) 0 (sectionTable f h base (startsTo f h (h .sections)) (undefStart f h));
         symbols = splice (s .symbols) 0 (symbolTable f h base map homes (recordsTo f h (h .sections)));

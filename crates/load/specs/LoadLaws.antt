@@ -1,9 +1,8 @@
 -- What an accepted load says and leaves: the file is accepted, the base allowed, there was room; each buffer's counted part is its table, and what lies behind it is as it was.
-use mathlib.Core.Path.{_≡_, refl, sym, ap, subst, _∙_}
-use mathlib.Core.Bool.{Bool, true, false, _&&_}
+use mathlib.Core.Path.{_≡_, sym, ap, _∙_}
+use mathlib.Core.Bool.{true, _&&_}
 use mathlib.Core.List.{List, [], _∷_, _++_}
-use mathlib.Core.Logic.{⊎-elim}
-use Prim.Native.Nat.{ℕ, zero, suc, _+_, _*_, _≤_, _<_}
+use Prim.Native.Nat.{ℕ, _*_, _≤_}
 use native.Mathlib.Omega.{arith}
 use lib.Dec.{eqb, leb}
 use lib.ListN.{length, getD}
@@ -16,25 +15,26 @@ use Rattle.object.specs.Format.{headerOf}
 use Rattle.object.specs.Section.{relocationCount}
 use Rattle.layout.specs.Layout.{undefStart, mappedPages, startsTo, tableRecords}
 use Rattle.layout.specs.Home.{recordsTo}
+use Rattle.checks.specs.Limits.{MAX-PAGES, MAX-EXTERNS}
 use Rattle.externs.specs.Externs.{externs}
 use Rattle.fixups.specs.Tally.{isFixup, isSkipped, howMany, tallyOf}
-use Rattle.refusal.specs.Refusal.{BASE, STORAGE}
+use Rattle.refusal.specs.Refusal.{STORAGE}
 use Rattle.survey.specs.declared.answer.Counts.{Counts}
-use Rattle.survey.specs.declared.answer.Survey.{Survey}
 use Rattle.survey.specs.declared.answer.Survey.the-variants.{Accepted, Refused}
 use Rattle.survey.specs.Listed.{listedTotal}
 use Rattle.survey.specs.Survey.{Check, check, firstFailed, externChecks, targetChecks, checks, counts, countsBy, tally, ownMap, homes, outcomes, answerBy, surveyOf}
 use Rattle.survey.specs.SurveyLaws.{check-holds, checks-hold, Ordered, ordered, ordered-rest, records-rest, tells-accepted, tells-refused}
-use Rattle.tables.specs.Sections.{sectionTable}
-use Rattle.tables.specs.Symbols.{symbolTable}
-use Rattle.tables.specs.Externs.{externTable}
-use Rattle.tables.specs.Relocations.{fixTable, skipTable}
+use Rattle.tables.specs.Sections.{SECTION-BYTES, sectionTable}
+use Rattle.tables.specs.Symbols.{SYMBOL-BYTES, symbolTable}
+use Rattle.tables.specs.Externs.{EXTERN-BYTES, externTable}
+use Rattle.tables.specs.Relocations.{FIXUP-BYTES, SKIP-BYTES, fixTable, skipTable}
 use Rattle.tables.specs.TableLaws.{sections-fill, symbols-fill, length-externs, fixes-fill, skips-fill}
 use Rattle.image.specs.MarkWords.{markCount, markBytes}
 use Rattle.image.specs.MarkLaws.{length-marks}
-use Rattle.image.specs.LaidLaws.{laidImage, laid-past}
+use Rattle.image.specs.Laid.{laidImage}
+use Rattle.image.specs.LaidLaws.{laid-past}
 use Rattle.load.specs.declared.Lengths.{Lengths}
-use Rattle.load.specs.Load.{Storage, lengthsOf, baseOk, layoutRoom, listsRoom, roomOk, storedBy, stored, loadChecks, LoadIs, Loads}
+use Rattle.load.specs.Load.{Storage, lengthsOf, baseOk, layoutRoom, listsRoom, roomOk, storedBy, stored, loadChecks, Loads}
 
 -- ---- what the answer says
 pub record LoadAccepts (f : List ℕ) (base : ℕ) (s s′ : Storage) (c : Counts) : Type 0 where
@@ -42,8 +42,8 @@ pub record LoadAccepts (f : List ℕ) (base : ℕ) (s s′ : Storage) (c : Count
   pub allowed : baseOk base ≡ true
   pub room : roomOk c s ≡ true
   pub counted : counts f (headerOf f) ≡ c
-  pub names : length (externs f (headerOf f)) ≤ 1024
-  pub pages : mappedPages f (headerOf f) ≤ 4096
+  pub names : length (externs f (headerOf f)) ≤ MAX-EXTERNS
+  pub pages : mappedPages f (headerOf f) ≤ MAX-PAGES
   pub leaves : s′ ≡ stored f (headerOf f) base s
 
 module _ (f : List ℕ) (base : ℕ) (s s′ : Storage) (c : Counts) (loads : Loads f base s s′ (Accepted c)) where
@@ -68,7 +68,7 @@ module _ (f : List ℕ) (base : ℕ) (s s′ : Storage) (c : Counts) (loads : Lo
   targets : firstFailed late ≡ 0
   targets = checks-hold _ _ _ rest
 
-  few-names : leb (length (externs f h)) 1024 ≡ true
+  few-names : leb (length (externs f h)) MAX-EXTERNS ≡ true
   few-names = check-holds _ _ _ rest
 
   abbrev last : List Check
@@ -98,8 +98,8 @@ module _ (f : List ℕ) (base : ℕ) (s s′ : Storage) (c : Counts) (loads : Lo
         allowed = check-holds (baseOk base) 11 (checks f h ++ (check (roomOk (counts f h) s) STORAGE ∷ [])) (told .0);
         room = rw (← told .1) (check-holds (roomOk (counts f h) s) 12 [] (checks-hold (eqb (tally f h .outside) 0) 10 last inside));
         counted = told .1;
-        names = leb-true (length (externs f h)) 1024 few-names;
-        pages = leb-true (mappedPages f h) 4096 (in-order .pages);
+        names = leb-true (length (externs f h)) MAX-EXTERNS few-names;
+        pages = leb-true (mappedPages f h) MAX-PAGES (in-order .pages);
         leaves = rw (told .0) at (loads .leaves);
       }
 
@@ -123,11 +123,11 @@ keeps table size before after e r q =
 pub record Rooms (c : Counts) (l : Lengths) : Type 0 where
   pub image : PAGE-SIZE * c .pages ≤ l .image
   pub marks : 8 * markCount (c .pages) ≤ l .marks
-  pub sections : 64 * c .sections ≤ l .sections
-  pub symbols : 48 * c .symbols ≤ l .symbols
-  pub externs : 32 * c .externs ≤ l .externs
-  pub fixups : 24 * c .fixups ≤ l .fixups
-  pub skips : 24 * c .skips ≤ l .skips
+  pub sections : SECTION-BYTES * c .sections ≤ l .sections
+  pub symbols : SYMBOL-BYTES * c .symbols ≤ l .symbols
+  pub externs : EXTERN-BYTES * c .externs ≤ l .externs
+  pub fixups : FIXUP-BYTES * c .fixups ≤ l .fixups
+  pub skips : SKIP-BYTES * c .skips ≤ l .skips
 
 pub rooms : (c : Counts) (l : Lengths) → layoutRoom c l && listsRoom c l ≡ true → Rooms c l
 unfolding layoutRoom listsRoom
@@ -135,16 +135,16 @@ rooms c l e =
     let a = and-left (layoutRoom c l) (listsRoom c l) e in
     let b = and-right (layoutRoom c l) (listsRoom c l) e in
     let a₂ = and-right (leb (PAGE-SIZE * c .pages) (l .image)) _ a in
-    let b₂ = and-right (leb (48 * c .symbols) (l .symbols)) _ b in
-    let b₃ = and-right (leb (32 * c .externs) (l .externs)) _ b₂ in
+    let b₂ = and-right (leb (SYMBOL-BYTES * c .symbols) (l .symbols)) _ b in
+    let b₃ = and-right (leb (EXTERN-BYTES * c .externs) (l .externs)) _ b₂ in
     record {
       image = leb-true _ _ (and-left (leb (PAGE-SIZE * c .pages) (l .image)) _ a);
       marks = leb-true _ _ (and-left (leb (8 * markCount (c .pages)) (l .marks)) _ a₂);
       sections = leb-true _ _ (and-right (leb (8 * markCount (c .pages)) (l .marks)) _ a₂);
-      symbols = leb-true _ _ (and-left (leb (48 * c .symbols) (l .symbols)) _ b);
-      externs = leb-true _ _ (and-left (leb (32 * c .externs) (l .externs)) _ b₂);
-      fixups = leb-true _ _ (and-left (leb (24 * c .fixups) (l .fixups)) _ b₃);
-      skips = leb-true _ _ (and-right (leb (24 * c .fixups) (l .fixups)) _ b₃);
+      symbols = leb-true _ _ (and-left (leb (SYMBOL-BYTES * c .symbols) (l .symbols)) _ b);
+      externs = leb-true _ _ (and-left (leb (EXTERN-BYTES * c .externs) (l .externs)) _ b₂);
+      fixups = leb-true _ _ (and-left (leb (FIXUP-BYTES * c .fixups) (l .fixups)) _ b₃);
+      skips = leb-true _ _ (and-right (leb (FIXUP-BYTES * c .fixups) (l .fixups)) _ b₃);
     }
 
 -- ---- what each buffer holds
@@ -152,11 +152,11 @@ pub record LoadLeaves (f : List ℕ) (base : ℕ) (s s′ : Storage) (c : Counts
   pub image : s′ .image ≡ laidImage f (headerOf f) base (length (externs f (headerOf f))) (s .image)
   pub image-behind : (k : ℕ) → PAGE-SIZE * c .pages ≤ k → getD (s′ .image) k 0 ≡ getD (s .image) k 0
   pub marks : Keeps (markBytes (c .pages) (markCount (c .pages))) (8 * markCount (c .pages)) (s .marks) (s′ .marks)
-  pub sections : Keeps (sectionTable f (headerOf f) base (startsTo f (headerOf f) (headerOf f .sections)) (undefStart f (headerOf f))) (64 * c .sections) (s .sections) (s′ .sections)
-  pub symbols : Keeps (symbolTable f (headerOf f) base (ownMap f (headerOf f)) (homes f (headerOf f)) (recordsTo f (headerOf f) (headerOf f .sections))) (48 * c .symbols) (s .symbols) (s′ .symbols)
-  pub externs : Keeps (externTable f (headerOf f) base (undefStart f (headerOf f)) (externs f (headerOf f)) (length (externs f (headerOf f)))) (32 * c .externs) (s .externs) (s′ .externs)
-  pub fixups : Keeps (fixTable base (outcomes f (headerOf f)) (relocationCount f (headerOf f)) (headerOf f .sections)) (24 * c .fixups) (s .fixups) (s′ .fixups)
-  pub skips : Keeps (skipTable (outcomes f (headerOf f)) (relocationCount f (headerOf f)) (headerOf f .sections)) (24 * c .skips) (s .skips) (s′ .skips)
+  pub sections : Keeps (sectionTable f (headerOf f) base (startsTo f (headerOf f) (headerOf f .sections)) (undefStart f (headerOf f))) (SECTION-BYTES * c .sections) (s .sections) (s′ .sections)
+  pub symbols : Keeps (symbolTable f (headerOf f) base (ownMap f (headerOf f)) (homes f (headerOf f)) (recordsTo f (headerOf f) (headerOf f .sections))) (SYMBOL-BYTES * c .symbols) (s .symbols) (s′ .symbols)
+  pub externs : Keeps (externTable f (headerOf f) base (undefStart f (headerOf f)) (externs f (headerOf f)) (length (externs f (headerOf f)))) (EXTERN-BYTES * c .externs) (s .externs) (s′ .externs)
+  pub fixups : Keeps (fixTable base (outcomes f (headerOf f)) (relocationCount f (headerOf f)) (headerOf f .sections)) (FIXUP-BYTES * c .fixups) (s .fixups) (s′ .fixups)
+  pub skips : Keeps (skipTable (outcomes f (headerOf f)) (relocationCount f (headerOf f)) (headerOf f .sections)) (SKIP-BYTES * c .skips) (s .skips) (s′ .skips)
 
 module _ (f : List ℕ) (base : ℕ) (s s′ : Storage) (c : Counts) (loads : Loads f base s s′ (Accepted c)) where
   accepts : LoadAccepts f base s s′ c

@@ -2,9 +2,7 @@
 use mathlib.Core.Path.{_≡_}
 use mathlib.Core.List.{List, [], _∷_, _++_}
 use Prim.Native.Nat.{ℕ, _≤_}
-use lib.Dec.{eqb}
 use lib.ListN.{length}
-use Rattle.util.specs.Pick.{pick}
 use Rattle.le.specs.Le.{splice}
 use Rattle.arch.specs.declared.Arch.{Arch}
 use Rattle.arch.specs.Machine.{archOf}
@@ -19,10 +17,10 @@ use Rattle.survey.specs.declared.answer.Counts.{Counts}
 use Rattle.survey.specs.declared.answer.Survey.{Survey}
 use Rattle.survey.specs.Survey.{archBy, check, firstFailed, externChecks, targetChecks, checks, counts, tallyBy, countsBy}
 use Rattle.object.specs.Format.{headerOf}
-use Rattle.layout.specs.Home.{homesTo}
 use Rattle.externs.specs.Bisect.{bisect}
 use Rattle.externs.specs.Externs.{externsBy}
 use Rattle.load.specs.Load.{Storage, roomOk, storedBy, stored, LoadIs}
+use Rattle.checks.specs.Limits.{MAX-SECTIONS, MAX-PAGES, MAX-EXTERNS}
 use Rattle.refusal.specs.Refusal.{STORAGE}
 
 -- section table, image and marks
@@ -38,13 +36,13 @@ pub record NamesAre (f : List ℕ) (h : Header) (base : ℕ) (map homes records 
 
 -- the limits: sections, pages and names
 pub record Limits (f : List ℕ) (h : Header) (set : List ℕ) : Type 0 where
-  pub sections : h .sections ≤ 256
-  pub pages : mappedPages f h ≤ 4096
-  pub names : length set ≤ 1024
+  pub sections : h .sections ≤ MAX-SECTIONS
+  pub pages : mappedPages f h ≤ MAX-PAGES
+  pub names : length set ≤ MAX-EXTERNS
 
 -- what is known once the records are in order: the limits, and the numbers that are handed on
 pub record Planned (f : List ℕ) (h : Header) (set : List ℕ) (arch : Arch) (undef pages n : ℕ) : Type 0 where
-  pub few : h .sections ≤ 256
+  pub few : h .sections ≤ MAX-SECTIONS
   pub machine : arch ≡ archBy (archOf (h .machine))
   pub last : undef ≡ undefStart f h
   pub mapped : pages ≡ mappedPages f h
@@ -58,9 +56,6 @@ storage image marks sections symbols externs fixups skips =
 -- the last check by itself
 abbrev pub roomCode : Counts → Storage → ℕ
 roomCode c s = firstFailed (check (roomOk c s) STORAGE ∷ [])
-
-abbrev pub homesOf : List ℕ → Header → List ℕ
-homesOf f h = homesTo f h (h .sections)
 
 -- by a map of own records, homes and extern names, whatever they are
 module _ (f : List ℕ) (h : Header) (map homes set : List ℕ) where

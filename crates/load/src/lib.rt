@@ -7,14 +7,14 @@ use survey::Counts;
 use survey::Survey;
 ghost use mathlib.Core.Path.{_≡_};
 ghost use Prim.Native.Nat.{_≤_};
-ghost use lib.ListN.{length};
 ghost use Rattle.externs.specs.Bisect.{bisect};
-ghost use Rattle.layout.specs.Layout.{undefStart, mappedPages, startsTo};
+ghost use Rattle.checks.specs.Limits.{MAX-SECTIONS, MAX-PAGES};
+ghost use Rattle.layout.specs.Layout.{startsTo};
 ghost use Rattle.layout.specs.Home.{recordsTo};
-ghost use Rattle.survey.specs.Survey.{ownMap};
+ghost use Rattle.survey.specs.Survey.{ownMap, homes};
 ghost use Rattle.survey.specs.Surveying.{Fits};
 ghost use Rattle.load.specs.Load.{baseOk, layoutRoom, listsRoom, roomFor, storedBy, LoadIs, Loads};
-ghost use Rattle.load.specs.Loading.{LayoutIs, NamesAre, Limits, Planned, storage, roomCode, homesOf, plannedCounts, plannedCode, LoadsWith, LoadsAt};
+ghost use Rattle.load.specs.Loading.{LayoutIs, NamesAre, Limits, Planned, storage, roomCode, plannedCounts, plannedCode, LoadsWith, LoadsAt};
 
 // The bytes of each lent buffer.
 struct Lengths {
@@ -27,19 +27,21 @@ struct Lengths {
     skips: u64,
 }
 
-pub const MAX_BASE: u64 = 0x7F000000;
-
 // 12: the base is a page multiple and not too high.
 fn base_ok(base: u64) -> bool
     ensures { λ r. ⌜ r ≡ baseOk base ⌝ }
 {
     let on_page = base % 4096 == 0;
-    if on_page { base <= MAX_BASE } else { false }
+    if on_page {
+        base <= checks::MAX_BASE
+    } else {
+        false
+    }
 }
 
 // The first three buffers have room.
 fn layout_room(c: Counts, l: Lengths) -> bool
-    requires { ⌜ c .pages ≤ 4096 ⌝ }
+    requires { ⌜ c .pages ≤ MAX-PAGES ⌝ }
     ensures { λ r. ⌜ r ≡ layoutRoom c l ⌝ }
 {
     let image = c.pages <= l.image / 4096;
@@ -79,7 +81,7 @@ fn lists_room(c: Counts, l: Lengths) -> bool
 
 // 13: each lent buffer has room for what is counted.
 fn room_ok(c: Counts, l: Lengths) -> bool
-    requires { ⌜ c .pages ≤ 4096 ⌝ }
+    requires { ⌜ c .pages ≤ MAX-PAGES ⌝ }
     ensures { λ r. ⌜ r ≡ roomFor c l ⌝ }
 {
     if layout_room(c, l) {
@@ -122,7 +124,7 @@ fn write_layout(
     image: &mut [u8],
     marks: &mut [u8],
 )
-    requires { ⌜ h .sections ≤ 256 ⌝ }
+    requires { ⌜ h .sections ≤ MAX-SECTIONS ⌝ }
     ensures { λ _.
         ⌜ LayoutIs (now (f .entry)) h base (startsTo (now (f .entry)) h (h .sections)) undef pages n (now (sections .entry)) (now (sections .exit)) (now (image .entry))
         (now (image .exit)) (now (marks .entry)) (now (marks .exit)) ⌝ }
@@ -177,7 +179,7 @@ fn write_names(
     symbols: &mut [u8],
     externs: &mut [u8],
 )
-    requires { ⌜ h .sections ≤ 256 ⌝ }
+    requires { ⌜ h .sections ≤ MAX-SECTIONS ⌝ }
     ensures { λ _.
         ⌜ NamesAre (now (f .entry)) h base (now (map .entry)) (now (homes .entry)) (recordsTo (now (f .entry)) h (h .sections)) undef n (now (set .entry))
         (now (symbols .entry)) (now (symbols .exit)) (now (externs .entry)) (now (externs .exit)) ⌝ }
@@ -293,7 +295,7 @@ fn load_room(
     fixups: &mut [u8],
     skips: &mut [u8],
 ) -> Survey
-    requires { ⌜ Limits (now f) h (now set) × (c .pages ≤ 4096) ⌝ }
+    requires { ⌜ Limits (now f) h (now set) × (c .pages ≤ MAX-PAGES) ⌝ }
     ensures { λ r.
         ⌜ LoadIs
         (roomCode c (storage (now (image .entry)) (now (marks .entry)) (now (sections .entry)) (now (symbols .entry)) (now (externs .entry)) (now (fixups .entry)) (now (skips .entry))))
@@ -442,7 +444,7 @@ fn load_homes(
 ) -> Survey
     requires { ⌜ Fits (now f) h ⌝ }
     ensures { λ r.
-        ⌜ LoadsWith (now (f .entry)) h base (now (map .entry)) (homesOf (now (f .entry)) h)
+        ⌜ LoadsWith (now (f .entry)) h base (now (map .entry)) (homes (now (f .entry)) h)
         (storage (now (image .entry)) (now (marks .entry)) (now (sections .entry)) (now (symbols .entry)) (now (externs .entry)) (now (fixups .entry)) (now (skips .entry)))
         (storage (now (image .exit)) (now (marks .exit)) (now (sections .exit)) (now (symbols .exit)) (now (externs .exit)) (now (fixups .exit)) (now (skips .exit)))
         r ⌝ }
@@ -480,7 +482,7 @@ fn load_records(
 ) -> Survey
     requires { ⌜ Fits (now f) h ⌝ }
     ensures { λ r.
-        ⌜ LoadsWith (now (f .entry)) h base (ownMap (now (f .entry)) h) (homesOf (now (f .entry)) h)
+        ⌜ LoadsWith (now (f .entry)) h base (ownMap (now (f .entry)) h) (homes (now (f .entry)) h)
         (storage (now (image .entry)) (now (marks .entry)) (now (sections .entry)) (now (symbols .entry)) (now (externs .entry)) (now (fixups .entry)) (now (skips .entry)))
         (storage (now (image .exit)) (now (marks .exit)) (now (sections .exit)) (now (symbols .exit)) (now (externs .exit)) (now (fixups .exit)) (now (skips .exit)))
         r ⌝ }

@@ -1,6 +1,5 @@
 -- The types that the questions pass on: an address, a number, a truth, and the answers. Assumes nothing.
 use mathlib.Core.Path.{refl}
-use mathlib.Core.List.{[], _∷_}
 use mir.Syntax.{w64, tyInt, tyBool}
 use mir.Val.{vint, vbool}
 use denote.Plain.{uint-tells, bool-tells, uint-lawful, bool-lawful}

@@ -1,6 +1,6 @@
 -- The questions read what load wrote: each word of a record that they take is the word of that record's definition. For every file and every buffer that the table fits.
 use mathlib.Core.Path.{_≡_}
-use mathlib.Core.Bool.{Bool, true}
+use mathlib.Core.Bool.{true}
 use mathlib.Core.List.{List}
 use Prim.Native.Nat.{ℕ, _+_, _*_, _%_, _^_, _≤_, _<_}
 use native.Mathlib.Omega.{arith}
@@ -11,15 +11,15 @@ use Rattle.object.specs.declared.Header.{Header}
 use Rattle.object.specs.Section.{loaded}
 use Rattle.layout.specs.Layout.{recordOf, tableRecords}
 use Rattle.survey.specs.Listed.{listed, listedTotal}
-use Rattle.tables.specs.Sections.{sectionWords, sectionTable}
-use Rattle.tables.specs.Symbols.{symbolWords, symbolTable}
-use Rattle.tables.specs.Externs.{externWords, externTable}
+use Rattle.tables.specs.Sections.{SECTION-BYTES, sectionWords, sectionTable}
+use Rattle.tables.specs.Symbols.{SYMBOL-BYTES, symbolWords, symbolTable}
+use Rattle.tables.specs.Externs.{EXTERN-BYTES, externWords, externTable}
 use Rattle.tables.specs.TableLaws.{section-record, sections-counted, symbol-record, symbols-counted, extern-back}
 use Rattle.module.specs.Section.{wordOf}
 
 module _ (f : List ℕ) (h : Header) (base : ℕ) where
   -- `fill_sections`: the record of section i
-  pub section-of-load : (starts : List ℕ) (undef : ℕ) (b : List ℕ) → 64 * tableRecords f h ≤ length b → (w : ℕ) → w < 8 → (i : ℕ) → i < h .sections → loaded f h i ≡ true
+  pub section-of-load : (starts : List ℕ) (undef : ℕ) (b : List ℕ) → SECTION-BYTES * tableRecords f h ≤ length b → (w : ℕ) → w < 8 → (i : ℕ) → i < h .sections → loaded f h i ≡ true
       → wordOf 8 (splice b 0 (sectionTable f h base starts undef)) (recordOf f h i) w ≡ getD (sectionWords f h base starts i) w 0 % 2 ^ 64
   unfolding wordOf
   section-of-load starts undef b r w q i n t =
@@ -27,7 +27,7 @@ module _ (f : List ℕ) (h : Header) (base : ℕ) where
       rw e (section-record f h base starts undef b (rw (sections-counted f h) r) w q i n t)
 
   -- the record of symbol j, behind those of the listed symbols before it
-  pub symbol-of-load : (map homes records b : List ℕ) → 48 * listedTotal f h map homes ≤ length b → (w : ℕ) → w < 6 → (j : ℕ) → j < h .symbols → listed f h map homes j ≡ true
+  pub symbol-of-load : (map homes records b : List ℕ) → SYMBOL-BYTES * listedTotal f h map homes ≤ length b → (w : ℕ) → w < 6 → (j : ℕ) → j < h .symbols → listed f h map homes j ≡ true
       → wordOf 6 (splice b 0 (symbolTable f h base map homes records)) (countTo (listed f h map homes) j) w ≡ getD (symbolWords f h base homes records j) w 0 % 2 ^ 64
   unfolding wordOf
   symbol-of-load map homes records b r w q j n t =
@@ -35,7 +35,7 @@ module _ (f : List ℕ) (h : Header) (base : ℕ) where
       rw e (symbol-record f h base map homes records b (rw (symbols-counted f h map homes) r) w q j n t)
 
   -- the record of extern name k
-  pub extern-of-load : (undef : ℕ) (set : List ℕ) (n k w : ℕ) (b : List ℕ) → 32 * n ≤ length b → k < n → w < 4
+  pub extern-of-load : (undef : ℕ) (set : List ℕ) (n k w : ℕ) (b : List ℕ) → EXTERN-BYTES * n ≤ length b → k < n → w < 4
       → wordOf 4 (splice b 0 (externTable f h base undef set n)) k w ≡ getD (externWords f h base undef set k) w 0 % 2 ^ 64
   unfolding wordOf
   extern-of-load undef set n k w b r t q =

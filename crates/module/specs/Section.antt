@@ -15,6 +15,8 @@ use Rattle.arch.specs.declared.Address.{Address}
 use Rattle.arch.specs.declared.Address.the-variants.{Of, Past}
 use Rattle.le.specs.Le.{get, part}
 use Rattle.names.specs.Bytes.{sameBytes, UNDEF}
+use Rattle.refusal.specs.Refusal.{NO-SECTION, NO-ENTRY}
+use Rattle.tables.specs.Sections.{SECTION-BYTES}
 use Rattle.refusal.specs.declared.Number.{Number}
 use Rattle.refusal.specs.declared.Number.the-variants.{Value, Refusal}
 use Rattle.module.specs.declared.Section.{Section}
@@ -22,12 +24,6 @@ use Rattle.module.specs.declared.Probe.{Probe}
 use Rattle.module.specs.declared.OffsetProbe.{OffsetProbe}
 use Rattle.module.specs.declared.AddressAnswer.{AddressAnswer}
 use Rattle.module.specs.declared.AddressAnswer.the-variants.{Found, Refused}
-
-abbrev pub NO-SECTION : ℕ
-NO-SECTION = 19
-
-abbrev pub NO-ENTRY : ℕ
-NO-ENTRY = 20
 
 -- the first record that p takes gives its answer; where there is none, `none` is it
 unfoldable pub firstOf : {A : Type 0} → (Section → Bool) → (ℕ → Section → A) → A → List Section → ℕ → A
@@ -146,7 +142,7 @@ fillTo table (suc n) t = set (fillTo table n t) n (sectionAt table n)
 
 -- as many as both have
 abbrev pub filled : List ℕ → List Section → List Section
-filled table t = fillTo table (min (length table / 64) (length t)) t
+filled table t = fillTo table (min (length table / SECTION-BYTES) (length t)) t
 
 -- what stands past the end of a table
 abbrev pub blank : Section

@@ -1,30 +1,28 @@
 -- What the questions to the section table promise.
-use mathlib.Core.Path.{_≡_, refl, sym, ap, _∙_}
-use mathlib.Core.Bool.{Bool, true, false, _&&_, _||_, and-false}
+use mathlib.Core.Path.{_≡_, refl, ap, _∙_}
+use mathlib.Core.Bool.{Bool, true, false, and-false}
 use mathlib.Core.List.{List, [], _∷_}
 use mathlib.Core.Logic.{⊎-elim}
-use Prim.Native.Nat.{ℕ, zero, suc, _+_, _-_, _*_, _/_, _%_, _^_, _<_, _≤_, min}
+use Prim.Native.Nat.{ℕ, zero, suc, _+_, _-_, _/_, _%_, _^_, _<_, _≤_, min}
 use native.Mathlib.Omega.{arith}
 use native.Mathlib.Nat.{not-suc-le-zero, le-of-suc-le-suc, mod-eq-of-lt, zero-add, eq-or-lt-of-le}
 use borrow.Author.Tests.{leb-true, le-leb, lt-ltb}
 use lib.Dec.{leb, ltb, eqb}
-use lib.ListN.{length, getD}
+use lib.ListN.{length}
 use lib.Seq.{getD-set-same, getD-set-other}
-use Rattle.util.specs.Pick.{pick, yes-no, and-left, and-right, and-both}
+use Rattle.util.specs.Pick.{pick, yes-no, and-left, and-both}
 use Rattle.arch.specs.declared.VA.{VA}
 use Rattle.arch.specs.Address.{va}
-use Rattle.refusal.specs.declared.Number.{Number}
+use Rattle.tables.specs.Sections.{SECTION-BYTES}
 use Rattle.refusal.specs.declared.Number.the-variants.{Value, Refusal}
 use Rattle.module.specs.declared.Section.{Section}
 use Rattle.module.specs.declared.Probe.{Probe}
-use Rattle.module.specs.declared.AddressAnswer.the-variants.{Found, Refused}
+use Rattle.module.specs.declared.AddressAnswer.the-variants.{Found}
 use Rattle.module.specs.Section.{
-  NO-SECTION,
   firstOf,
   within,
   holds,
   fileHolds,
-  moved,
   offsetIn,
   addressIn,
   numbered,
@@ -130,8 +128,8 @@ fill-past table zero t r h = refl
 fill-past table (suc n) t r h = getD-set-other (fillTo table n t) n r (sectionAt table n) blank (λ e. omega arith) ∙ fill-past table n t r (omega arith)
 
 module _ (table : List ℕ) (t : List Section) (r : ℕ) where
-  pub filled-record : r < length table / 64 → r < length t → nth (filled table t) r ≡ sectionAt table r
-  filled-record h l = fill-is table (min (length table / 64) (length t)) t r (omega arith) l
+  pub filled-record : r < length table / SECTION-BYTES → r < length t → nth (filled table t) r ≡ sectionAt table r
+  filled-record h l = fill-is table (min (length table / SECTION-BYTES) (length t)) t r (omega arith) l
 
-  pub filled-past : length table / 64 ≤ r → nth (filled table t) r ≡ nth t r
-  filled-past h = fill-past table (min (length table / 64) (length t)) t r (omega arith)
+  pub filled-past : length table / SECTION-BYTES ≤ r → nth (filled table t) r ≡ nth t r
+  filled-past h = fill-past table (min (length table / SECTION-BYTES) (length t)) t r (omega arith)

@@ -1,10 +1,9 @@
 -- Questions to the tables of symbols and of extern names (01, "Layout, slots and fixups": a name finds the last, an address all).
-use mathlib.Core.Path.{_≡_, refl}
+use mathlib.Core.Path.{_≡_}
 use mathlib.Core.Bool.{Bool, true, false}
 use mathlib.Core.List.{List, []}
 use Prim.Native.Nat.{ℕ, zero, suc, _+_, _-_, _*_, _/_, _<_, _≤_}
 use native.Mathlib.Omega.{arith}
-use native.Mathlib.Numerals.{add-one}
 use lib.Dec.{ltb, eqb}
 use lib.ListN.{length}
 use Rattle.util.specs.Pick.{pick}
@@ -21,14 +20,17 @@ use Rattle.module.specs.declared.SymbolAnswer.the-variants as S
 use Rattle.module.specs.declared.Extern.{Extern}
 use Rattle.module.specs.declared.ExternAnswer.{ExternAnswer}
 use Rattle.module.specs.declared.ExternAnswer.the-variants as E
-use Rattle.module.specs.Section.{NO-ENTRY, wordOf}
+use Rattle.refusal.specs.Refusal.{NO-ENTRY}
+use Rattle.tables.specs.Symbols.{SYMBOL-BYTES}
+use Rattle.tables.specs.Externs.{EXTERN-BYTES}
+use Rattle.module.specs.Section.{wordOf}
 
 -- the whole records of a table
 abbrev pub symbolCount : List ℕ → ℕ
-symbolCount table = length table / 48
+symbolCount table = length table / SYMBOL-BYTES
 
 abbrev pub externCount : List ℕ → ℕ
-externCount table = length table / 32
+externCount table = length table / EXTERN-BYTES
 
 -- ---- a record by number
 abbrev pub symbolRecord : List ℕ → ℕ → Symbol

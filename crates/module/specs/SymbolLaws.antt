@@ -1,5 +1,5 @@
 -- What the questions to the tables of symbols and of extern names promise.
-use mathlib.Core.Path.{_≡_, refl, sym, ap, _∙_}
+use mathlib.Core.Path.{_≡_, refl, ap, _∙_}
 use mathlib.Core.Bool.{Bool, true, false}
 use mathlib.Core.List.{List}
 use mathlib.Core.Logic.{⊎-elim}
@@ -9,7 +9,7 @@ use native.Mathlib.Nat.{not-suc-le-zero, le-of-suc-le-suc, eq-or-lt-of-le}
 use Rattle.util.specs.Pick.{pick}
 use Rattle.arch.specs.declared.VA.{VA}
 use Rattle.refusal.specs.declared.Number.the-variants.{Value, Refusal}
-use Rattle.module.specs.Section.{NO-ENTRY}
+use Rattle.refusal.specs.Refusal.{NO-ENTRY}
 use Rattle.module.specs.Symbol.{symbolCount, hasName, lastTo, firstFrom, symbolNamed, liesAt, symbolAt}
 
 -- ---- the last below n of which p holds

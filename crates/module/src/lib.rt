@@ -2,6 +2,7 @@
 ghost use mathlib.Core.Path.{_≡_};
 ghost use mathlib.Core.Bool.{true, false};
 ghost use Prim.Native.Nat.{_<_, _/_, _^_, min};
+ghost use Rattle.refusal.specs.Refusal.{NO-ENTRY};
 ghost use Rattle.refusal.specs.declared.Number.the-variants.{Value, Refusal};
 ghost use Rattle.module.specs.Section.{
   within,
@@ -13,7 +14,6 @@ ghost use Rattle.module.specs.Section.{
   numbered,
   NONE,
   NO-ADDRESS,
-  NO-ENTRY,
   fileOffset,
   virtualAddress,
   sectionOf,

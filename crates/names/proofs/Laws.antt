@@ -1,6 +1,6 @@
 -- The loops over bytes, and the ways through the name readers. Assumes nothing.
-use mathlib.Core.Path.{_≡_, refl, sym, ap, _∙_}
-use mathlib.Core.Bool.{Bool, true, false, _&&_, not, and-false}
+use mathlib.Core.Path.{_≡_, refl, sym, ap}
+use mathlib.Core.Bool.{Bool, true, false, and-false}
 use mathlib.Core.List.{List, [], _∷_}
 use mathlib.Core.Logic.{⊎-elim}
 use Prim.Native.Nat.{ℕ, zero, suc, _+_, _-_, _*_, _^_, _≤_, _<_, min}
@@ -8,11 +8,10 @@ use native.Mathlib.Nat.{add-zero, sub-zero, pow-suc, pow-le-pow-right}
 use native.Mathlib.Numerals.{add-one}
 use native.Mathlib.Omega.{arith}
 use borrow.Author.Tests.{lt-ltb, le-ltb, le-leb, lt-leb, eq-eqb, ne-eqb}
-use lib.Dec.{ltb, leb, eqb}
-use lib.ListN.{length, getD, drop, length-drop, drop-of-length-le, List·getD-eq-default}
+use lib.Dec.{leb, eqb}
+use lib.ListN.{length, getD, drop, drop-of-length-le, List·getD-eq-default}
 use lib.Seq.{drop-cons}
 use Rattle.util.specs.Pick.{pick, le-or-lt}
-use Rattle.util.specs.Prefix.{allTo}
 use Rattle.le.specs.Le.{get, part, part-most}
 use Rattle.object.specs.declared.Header.{Header}
 use Rattle.object.specs.Format.{stringTable, stringLength}
@@ -21,7 +20,7 @@ use Rattle.names.specs.declared.Order.the-variants.{Less, Equal, Greater
 use Rattle.names.specs.declared.Name.{Name}
 use Rattle.names.specs.declared.Name.the-variants.{Good, Bad}
 use Rattle.names.specs.Bytes.{run, visible, isDigit, goodSymbolName, allVisible, allDigits, decimal, decimalTo, compareBytes, sameBytes}
-use Rattle.names.specs.Name.{longRun, symbolRun, slashRun, slashDigits, sectionRun, checked, nameBytes, shortRun, SLASH}
+use Rattle.names.specs.Name.{longRun, symbolRun, slashRun, sectionRun, checked, nameBytes}
 
 left-suc : (i l : ℕ) → i < l → l - i ≡ suc (l - (i + 1))
 left-suc i l h = omega arith

@@ -1,8 +1,8 @@
 -- What a good name is: only bytes that a name may have, and an end where one is due (01, "Records").
 -- A byte past the file reads as 0; the survey's refusals 3 and 4 keep every field and the string table within it.
-use mathlib.Core.Path.{_≡_, refl, sym, ap, _∙_}
+use mathlib.Core.Path.{_≡_, refl}
 use mathlib.Core.Bool.{Bool, true, false, _&&_, not}
-use mathlib.Core.List.{List, [], _∷_}
+use mathlib.Core.List.{List}
 use mathlib.Core.Logic.{_⊎_, inl, inr, ⊎-elim}
 use Prim.Native.Nat.{ℕ, zero, suc, _+_, _-_, _≤_, _<_}
 use native.Mathlib.Omega.{arith}
@@ -10,7 +10,7 @@ use lib.Dec.{ltb, leb, eqb}
 use lib.ListN.{length, getD, List·getD-eq-default}
 use borrow.Author.Tests.{leb-true, ltb-true, eqb-true, eqb-false, not-true}
 use Rattle.util.specs.Pick.{pick, yes-no, le-or-lt, and-left, and-right}
-use Rattle.util.specs.Prefix.{allTo, all-at}
+use Rattle.util.specs.Prefix.{all-at}
 use Rattle.le.specs.Le.{get, part, length-part, part-none}
 use Rattle.object.specs.declared.Header.{Header}
 use Rattle.object.specs.Format.{NAME-SIZE, sectionAt, symbolAt, stringTable, stringLength}

@@ -1,29 +1,27 @@
 -- The ways through the readers. Assumes nothing.
-use mathlib.Core.Path.{_≡_, refl, sym, ap, _∙_}
-use mathlib.Core.Bool.{Bool, true, false, _&&_, _||_, not}
-use mathlib.Core.List.{List, [], _∷_, _++_}
-use mathlib.Core.Logic.{_⊎_, inl, inr, ⊎-elim}
+use mathlib.Core.Path.{_≡_, refl, _∙_}
+use mathlib.Core.Bool.{Bool, true, false, not}
+use mathlib.Core.List.{List, [], _∷_}
+use mathlib.Core.Logic.{⊎-elim}
 use Prim.Native.Nat.{ℕ, zero, suc, _+_, _-_, _*_, _/_, _%_, _^_, _≤_, _<_}
 use native.Mathlib.Omega.{arith}
 use native.Mathlib.Nat.{one-mul}
 use native.Mathlib.Numerals.{add-one}
-use lib.Dec.{leb, ltb, eqb, lit<}
-use lib.IntN.{ℤ, pos, negsuc}
+use lib.Dec.{eqb, lit<}
 use lib.Pow.{shl-exact}
-use borrow.Author.Tests.{leb-true, eq-eqb, ne-eqb, le-leb, lt-leb, lt-ltb, le-ltb}
+use borrow.Author.Tests.{eq-eqb, ne-eqb, le-leb, lt-leb, lt-ltb, le-ltb}
 use mir.Syntax.{w16}
 use mir.Val.{toZ}
-use Rattle.util.specs.Pick.{pick, le-or-lt, yes-no}
+use Rattle.util.specs.Pick.{pick, le-or-lt}
 use Rattle.util.specs.Align.{roundUp, align-exact, up-one, up-near}
-use Rattle.le.specs.Le.{get, le, splice, splice-next}
+use Rattle.le.specs.Le.{get, splice, fill-none, fill-again, fill-end}
 use Rattle.object.specs.declared.Header.{Header}
 use Rattle.object.specs.declared.SymbolKind.{SymbolKind}
-use Rattle.object.specs.declared.SymbolKind.the-variants.{Unknown, Text, Data, Section, File, Label}
+use Rattle.object.specs.declared.SymbolKind.the-variants.{Section}
 use Rattle.object.specs.declared.Place.{Place}
 use Rattle.object.specs.declared.Place.the-variants.{In, Undefined, Common, Absolute, Nowhere, Other}
-use Rattle.object.specs.Format.{headerOf, stringTable, stringLength, rawSize, rawPointer, relocationPointer, relocationField, flags, auxiliaries, RELOCATION-SIZE}
-use Rattle.object.specs.Section.{loadedBy, alignCode, alignOf, permissionsBy, fileStart, fileEnd, rangeLength, extended, relocationRecords, relocationCount, relocationStart, hasFlag, uninitialized, LNK-NRELOC-OVFL}
-use Rattle.object.specs.SymbolLaws.{length-primaries}
+use Rattle.object.specs.Format.{headerOf, stringTable, stringLength, rawSize, rawPointer, relocationPointer, relocationField, flags, auxiliaries}
+use Rattle.object.specs.Section.{loadedBy, alignOf, permissionsBy, fileEnd, rangeLength, extended, relocationRecords, relocationCount, relocationStart, uninitialized}
 use Rattle.object.specs.Symbol.{codeOrData, staticKind, zeroPlace, placeBy, owed, primary, primaries}
 
 -- ---- the header
@@ -161,14 +159,9 @@ pub owed-end : (f : List ℕ) (h : Header) (j n m left : ℕ) → left ≡ owed 
 owed-end f h j n m left e a b q = let z : j ≡ n = omega arith in cc
 
 -- the map with j records done
-pub map-none : (f : List ℕ) (h : Header) (l : List ℕ) → l ≡ splice l 0 (primaries f h 0)
-unfolding splice primaries
-map-none f h l = refl
-
 module _ (f : List ℕ) (h : Header) (l b b′ : List ℕ) (j : ℕ) where
   map-next : (x : ℕ) → b ≡ splice l 0 (primaries f h j) → b′ ≡ splice b j (x ∷ []) → x ≡ pick (primary f h j) 1 0 → b′ ≡ splice l 0 (primaries f h (j + 1))
-  unfolding primaries
-  map-next x e d p = rw (d, e, splice-next l 0 (primaries f h j) (x ∷ []) j (let z = length-primaries f h j in omega arith), p, add-one)
+  map-next x e d p = fill-again (λ k. pick (primary f h k) 1 0) l b b′ j x e p d
 
   pub map-own : (left : ℕ) → b ≡ splice l 0 (primaries f h j) → left ≡ owed f h j → left ≡ 0 → b′ ≡ splice b j (1 ∷ []) → b′ ≡ splice l 0 (primaries f h (j + 1))
   unfolding primary pick
@@ -178,10 +171,7 @@ module _ (f : List ℕ) (h : Header) (l b b′ : List ℕ) (j : ℕ) where
   unfolding primary pick
   map-auxiliary left e q n d = map-next 0 e d (rw (ne-eqb (owed f h j) 0 (rw q at n)))
 
-pub map-end : (f : List ℕ) (h : Header) (l b : List ℕ) (j n m : ℕ) → b ≡ splice l 0 (primaries f h j) → j ≤ n → n ≤ j → n ≡ m → b ≡ splice l 0 (primaries f h m)
-map-end f h l b j n m e a c q = let z : j ≡ n = omega arith in cc
-
-pub ruleset auxiliary-loop = (owed-own, owed-less, owed-none, owed-end, map-none, map-own, map-auxiliary, map-end)
+pub ruleset auxiliary-loop = (owed-own, owed-less, owed-none, owed-end, fill-none, map-own, map-auxiliary, fill-end)
 
 -- ---- permissions: a binary digit times its weight
 digit : (d k : ℕ) → d < 2 → d * k ≡ pick (eqb d 1) k 0

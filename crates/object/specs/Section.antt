@@ -1,7 +1,7 @@
 -- What a section record says (01, "Records" and "Layout, slots and fixups"; PE/COFF, "Section Flags").
-use mathlib.Core.Bool.{Bool, true, false, _&&_, not}
+use mathlib.Core.Bool.{Bool, _&&_, not}
 use mathlib.Core.List.{List}
-use Prim.Native.Nat.{ℕ, _+_, _-_, _*_, _/_, _%_, _^_}
+use Prim.Native.Nat.{ℕ, _+_, _-_, _/_, _%_, _^_}
 use lib.Dec.{leb, eqb}
 use Rattle.util.specs.Pick.{pick}
 use Rattle.util.specs.Align.{roundUp}

@@ -1,18 +1,18 @@
 -- What holds of every alignment and every range length (01, "Layout, slots and fixups").
-use mathlib.Core.Path.{_≡_, refl, sym, ap, _∙_}
-use mathlib.Core.Bool.{Bool, true, false, _&&_}
+use mathlib.Core.Path.{_≡_}
+use mathlib.Core.Bool.{_&&_}
 use mathlib.Core.List.{List}
 use mathlib.Core.Logic.{⊎-elim}
-use Prim.Native.Nat.{ℕ, _+_, _-_, _*_, _%_, _^_, _≤_, _<_}
+use Prim.Native.Nat.{ℕ, _+_, _-_, _%_, _^_, _≤_, _<_}
 use native.Mathlib.Omega.{arith}
 use native.Mathlib.Nat.{pow-le-pow-right}
 use lib.Dec.{leb}
 use borrow.Author.Tests.{leb-true}
-use Rattle.util.specs.Pick.{pick, yes-no, le-or-lt, and-left, and-right}
+use Rattle.util.specs.Pick.{pick, yes-no, le-or-lt, and-right}
 use Rattle.util.specs.Align.{roundUp, up-multiple, up-not-below, up-near, up-one}
 use Rattle.object.specs.declared.Header.{Header}
 use Rattle.object.specs.Format.{rawSize, flags}
-use Rattle.object.specs.Section.{alignCode, alignOf, rangeLength}
+use Rattle.object.specs.Section.{alignCode, alignOf, rangeLength, uninitialized, fileStart, fileEnd}
 
 -- ---- the alignment
 -- a power of two up to 2 ^ 13
@@ -79,3 +79,10 @@ module _ (f : List ℕ) (h : Header) (i : ℕ) where
   pub range-least : rangeLength f h i < rawSize f h i + alignment
   unfolding rangeLength
   range-least = round-least (rawSize f h i) alignment (align-not-zero (alignCode (flags f h i)))
+
+  -- so it holds the section's bytes in the file
+  pub file-range : fileEnd f h i - fileStart f h i ≤ rangeLength f h i
+  unfolding fileStart fileEnd pick
+  file-range =
+      let r = range-holds in
+      ⊎-elim (λ t. rw t (omega arith)) (λ t. rw t (omega arith)) (yes-no (uninitialized f h i))

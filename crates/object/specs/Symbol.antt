@@ -1,12 +1,13 @@
 -- What a symbol record says (01, "Records"; PE/COFF, "COFF Symbol Table").
-use mathlib.Core.Bool.{Bool, true, false, _&&_, _||_, not}
-use mathlib.Core.List.{List, [], _∷_, _++_}
-use Prim.Native.Nat.{ℕ, zero, suc, _+_, _-_, _*_, _/_, _%_}
+use mathlib.Core.Bool.{Bool, _&&_, _||_, not}
+use mathlib.Core.List.{List}
+use Prim.Native.Nat.{ℕ, zero, suc, _-_, _/_, _%_}
 use lib.IntN.{ℤ, pos, negsuc}
-use lib.Dec.{leb, ltb, eqb}
+use lib.Dec.{eqb}
 use mir.Syntax.{w16}
 use mir.Val.{toZ}
 use Rattle.util.specs.Pick.{pick}
+use Rattle.util.specs.Prefix.{listTo}
 use Rattle.object.specs.declared.Header.{Header}
 use Rattle.object.specs.declared.SymbolKind.{SymbolKind}
 use Rattle.object.specs.declared.SymbolKind.the-variants.{Unknown, Text, Data, Section, File, Label}
@@ -97,9 +98,8 @@ unfoldable pub primary : List ℕ → Header → ℕ → Bool
 primary f h j = eqb (owed f h j) 0
 
 -- a byte a record: 1 for a symbol's own, 0 for an auxiliary one
-unfoldable pub primaries : List ℕ → Header → ℕ → List ℕ
-primaries f h zero = []
-primaries f h (suc n) = primaries f h n ++ (pick (primary f h n) 1 0 ∷ [])
+abbrev pub primaries : List ℕ → Header → ℕ → List ℕ
+primaries f h n = listTo (λ j. pick (primary f h j) 1 0) n
 
 -- ---- numbers and words
 -- the number that the tables have for a kind

@@ -1,16 +1,16 @@
 -- Symbols' own records and the runs of auxiliary records behind them share out the numbers: each number is one or the other, and no two
 -- runs meet (01, "Records").
-use mathlib.Core.Path.{_≡_, refl, sym, ap, _∙_}
-use mathlib.Core.Bool.{Bool, true, false}
-use mathlib.Core.List.{List, [], _∷_, _++_}
+use mathlib.Core.Path.{_≡_, refl}
+use mathlib.Core.Bool.{true, false}
+use mathlib.Core.List.{List}
 use mathlib.Core.Logic.{⊎-elim}
 use Prim.Native.Nat.{ℕ, zero, suc, _+_, _-_, _≤_, _<_}
 use native.Mathlib.Omega.{arith}
 use lib.Dec.{eqb}
-use lib.ListN.{length, getD, length-append, List·getD-append}
-use lib.Seq.{getD-at}
+use lib.ListN.{getD}
 use borrow.Author.Tests.{eq-eqb, ne-eqb, eqb-true, eqb-false}
 use Rattle.util.specs.Pick.{pick, yes-no, le-or-lt}
+use Rattle.util.specs.Prefix.{list-at}
 use Rattle.object.specs.declared.Header.{Header}
 use Rattle.object.specs.Format.{auxiliaries}
 use Rattle.object.specs.Symbol.{owed, primary, primaries}
@@ -111,23 +111,9 @@ module _ (f : List ℕ) (h : Header) where
       (le-or-lt k (j + auxiliaries f h j))
 
   -- ---- the map of primaries
-  -- it has one byte a record
-  pub length-primaries : (n : ℕ) → length (primaries f h n) ≡ n
-  unfolding primaries
-  length-primaries zero = refl
-  length-primaries (suc n) = simp (length-append, length-primaries n) (omega arith)
-
   -- its byte j says whether record j is a symbol's own
-  pub primaries-at : (n j : ℕ) → j < n → getD (primaries f h n) j 0 ≡ pick (primary f h j) 1 0
-  unfolding primaries
-  primaries-at zero j l = absurd (omega arith)
-  primaries-at (suc n) j l =
-      ⊎-elim
-      (λ m.
-      let e : j ≡ n = omega arith in
-      rw e (getD-at (primaries f h n) (pick (primary f h n) 1 0) [] 0 n (length-primaries n)))
-      (λ m. List·getD-append (primaries f h n) (pick (primary f h n) 1 0 ∷ []) 0 j (rw length-primaries m) ∙ primaries-at n j m)
-      (le-or-lt n j)
+  primaries-at : (n j : ℕ) → j < n → getD (primaries f h n) j 0 ≡ pick (primary f h j) 1 0
+  primaries-at n j l = list-at (λ k. pick (primary f h k) 1 0) 0 n j l
 
   -- a symbol's own record has a 1
   pub primaries-one : (n j : ℕ) → j < n → primary f h j ≡ true → getD (primaries f h n) j 0 ≡ 1

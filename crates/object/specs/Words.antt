@@ -1,4 +1,4 @@
--- The words and numbers that document 01 has for each kind and place (01, "Records"; the words are those that the program prints).
+-- The words and numbers that document 01 has for each kind and place (01, "Records"; the program prints those of the kinds).
 use mathlib.Core.Path.{_≡_, refl}
 use mathlib.Core.Bool.{_&&_}
 use mathlib.Core.List.{List, [], _∷_}

@@ -10,7 +10,6 @@ ghost use Rattle.object.specs.Section.{
   loadedBy,
   loaded,
   uninitialized,
-  alignCode,
   alignOf,
   permissionsBy,
   permissions,

@@ -6,13 +6,11 @@ use crate::format::symbol_u8;
 use crate::format::symbol_u16;
 use crate::format::symbol_u32;
 ghost use mathlib.Core.Path.{_≡_};
-ghost use lib.ListN.{length};
 ghost use mir.Syntax.{w16};
 ghost use mir.Val.{toZ};
 ghost use Rattle.le.specs.Le.{splice};
 ghost use Rattle.object.specs.Format.{symbolValue, sectionField, symbolType, symbolClass, auxiliaries};
 ghost use Rattle.object.specs.Symbol.{
-  isFunction,
   codeOrData,
   staticKind,
   kindBy,

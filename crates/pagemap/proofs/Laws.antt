@@ -1,27 +1,26 @@
 -- What the code asks: the marks' words and loops, pages against bytes, and each check's ways. Assumes nothing.
-use mathlib.Core.Path.{_≡_, refl, sym, ap, _∙_}
+use mathlib.Core.Path.{_≡_, refl, sym, _∙_}
 use mathlib.Core.Bool.{Bool, true, false, _&&_}
-use mathlib.Core.List.{List, [], _∷_, _++_, append-nil}
-use mathlib.Core.Logic.{⊎-elim}
+use mathlib.Core.List.{List, append-nil}
 use Prim.Native.Nat.{ℕ, zero, suc, _+_, _-_, _*_, _/_, _%_, _^_, _≤_, _<_, max}
 use native.Mathlib.Omega.{arith}
-use native.Mathlib.Nat.{mod-lt, one-mul, mod-eq-of-lt}
+use native.Mathlib.Nat.{mod-lt, one-mul}
 use native.Mathlib.Numerals.{add-one}
 use lib.ListN.{length, take, drop, replicate, length-replicate, length-take, length-drop, drop-of-length-le}
 use lib.Bits.{bitOr}
 use lib.Count.{ones, ones-le}
 use lib.Dec.{ltb, leb, eqb}
 use lib.Pow.{shl-exact}
-use borrow.Author.Tests.{lt-ltb, le-ltb, le-leb, lt-leb, ne-eqb, leb-true, leb-false}
+use borrow.Author.Tests.{le-ltb, le-leb, lt-leb, ne-eqb, leb-true, leb-false}
 use Rattle.util.specs.Align.{roundUp, up-not-below, align-exact}
-use Rattle.util.specs.Pick.{pick, passed, passed-on, both-ways, and-left, and-right, and-both}
+use Rattle.util.specs.Pick.{pick, passed, passed-on, both-ways}
 use Rattle.util.specs.Prefix.{allTo, sumTo, all-at, all-of, all-stop}
-use Rattle.le.specs.Le.{get, le, splice, part, length-splice, splice-front, splice-next}
+use Rattle.le.specs.Le.{get, le, splice, part, splice-front, splice-next}
 use Rattle.refusal.specs.Refusal.{doneOf, unlessRefused, Leaves, LeavesBoth, leaves-done}
 use Rattle.refusal.specs.declared.Answer.{Answer}
 use Rattle.refusal.specs.declared.Answer.the-variants.{Done, Refused}
-use Rattle.pagemap.specs.Marks.{marked, mark, markPages, pageCount, wordAt}
-use Rattle.pagemap.specs.Pages.{storageOk, mapped, spanMapped, readCode, sliceCode, pagesLent, paddedPages, paddedWriteCode, padded, capacityCode}
+use Rattle.pagemap.specs.Marks.{marked, mark, markPages, wordAt}
+use Rattle.pagemap.specs.Pages.{storageOk, mapped, spanMapped, readCode, sliceCode, pagesLent, paddedWriteCode, padded, capacityCode}
 use Rattle.pagemap.specs.MarkLaws.{length-pages}
 use Rattle.pagemap.specs.PageLaws.{mapped-of, mapped-marked, read-in, slice-ordered, slice-in, padded-fits}
 

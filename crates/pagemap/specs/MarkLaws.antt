@@ -1,21 +1,20 @@
 -- What holds of the marks, as later layers ask it: a mark that is set is there and changes no other, and the count is the count of marked pages.
-use mathlib.Core.Path.{_≡_, refl, sym, ap, _∙_}
+use mathlib.Core.Path.{_≡_, refl, sym, _∙_}
 use mathlib.Core.Bool.{Bool, true, false, _&&_, _||_}
-use mathlib.Core.List.{List, [], _∷_}
+use mathlib.Core.List.{List}
 use mathlib.Core.Logic.{⊎-elim}
 use Prim.Native.Nat.{ℕ, zero, suc, _+_, _-_, _*_, _/_, _%_, _^_, _≤_, _<_, max}
 use native.Mathlib.Omega.{arith}
 use native.Mathlib.Nat.{mod-lt, pow-suc, pow-zero, one-mul, div-one, mul-comm, div-div-eq-div-mul, div-eq-of-lt, mod-eq-of-lt, eq-or-lt-of-le}
-use native.Mathlib.Numerals.{add-one}
-use lib.ListN.{length, getD, set}
+use lib.ListN.{length}
 use lib.Bits.{bitOr, or-shr, or-step, or-lt}
 use lib.Count.{ones, ones-step, ones-le}
 use lib.Dec.{ltb, leb, eqb}
 use lib.Pow.{pow-lt, pow-add, shl-shr}
-use borrow.Author.Tests.{eq-eqb, ne-eqb, eqb-true, eqb-false, le-leb, lt-ltb, leb-true, ltb-true}
-use Rattle.util.specs.Pick.{pick, yes-no, le-or-lt, and-left, and-right, and-both}
+use borrow.Author.Tests.{eq-eqb, eqb-true, eqb-false, le-leb, lt-ltb, leb-true, ltb-true}
+use Rattle.util.specs.Pick.{pick, yes-no, le-or-lt, and-left, and-right, and-both, not-both}
 use Rattle.util.specs.Prefix.{sumTo, countTo, sum-front, sum-plus, sum-same, sum-zero, sum-rows, count-is-sum}
-use Rattle.le.specs.Le.{get, le, splice, length-le, length-splice, get-splice, get-before, get-after}
+use Rattle.le.specs.Le.{le, length-le, length-splice, get-splice, get-before, get-after, get-below, IsBytes, splice-bytes, le-bytes}
 use Rattle.pagemap.specs.Marks.{marked, mark, markPages, pageCount, wordAt}
 
 -- ---- the length is kept
@@ -28,47 +27,16 @@ unfolding markPages
 length-pages m p zero = refl
 length-pages m p (suc n) = length-mark (markPages m p n) (p + n) ∙ length-pages m p n
 
--- ---- each element is a byte; open, so that what is known of a lent slice serves as it stands
-abbrev pub Bytes : List ℕ → Type 0
-Bytes l = (i : ℕ) → getD l i 0 < 256
-
-set-bytes : (l : List ℕ) (i a : ℕ) → Bytes l → a < 256 → Bytes (set l i a)
-set-bytes [] i a b h k = b k
-set-bytes (x ∷ l) zero a b h zero = h
-set-bytes (x ∷ l) zero a b h (suc k) = b (suc k)
-set-bytes (x ∷ l) (suc i) a b h zero = b 0
-set-bytes (x ∷ l) (suc i) a b h (suc k) = set-bytes l i a (λ j. b (suc j)) h k
-
--- bytes that are put among bytes leave bytes
-pub splice-bytes : (l : List ℕ) (i : ℕ) (vs : List ℕ) → Bytes l → Bytes vs → Bytes (splice l i vs)
-unfolding splice
-splice-bytes l i [] b v k = b k
-splice-bytes l i (a ∷ vs) b v k = splice-bytes (set l i a) (suc i) vs (set-bytes l i a b (v 0)) (λ j. v (suc j)) k
-
-pub le-bytes : (n v : ℕ) → Bytes (le n v)
-unfolding le
-le-bytes zero v i = omega arith
-le-bytes (suc n) v zero = omega arith
-le-bytes (suc n) v (suc i) = le-bytes n (v / 256) i
-
-get-less : (n : ℕ) (l : List ℕ) (i : ℕ) → Bytes l → get n l i < 256 ^ n
-unfolding get
-get-less zero l i b = rw pow-zero (omega arith)
-get-less (suc n) l i b =
-    let e : 256 ^ suc n ≡ 256 ^ n * 256 = pow-suc _ _ in
-    let r = get-less n l (suc i) b in
-    let a = b i in
-    omega arith
-
+-- ---- each element is a byte
 -- marks are bytes, and a word of them is below 2 ^ 64
-pub word-less : (m : List ℕ) (w : ℕ) → Bytes m → wordAt m w < 2 ^ 64
-word-less m w b = get-less 8 m (8 * w) b
+pub word-less : (m : List ℕ) (w : ℕ) → IsBytes m → wordAt m w < 2 ^ 64
+word-less m w b = get-below 8 m (8 * w) b
 
-pub mark-bytes : (m : List ℕ) (p : ℕ) → Bytes m → Bytes (mark m p)
+pub mark-bytes : (m : List ℕ) (p : ℕ) → IsBytes m → IsBytes (mark m p)
 unfolding mark
 mark-bytes m p b = splice-bytes m (8 * (p / 64)) (le 8 (bitOr (wordAt m (p / 64)) (2 ^ (p % 64)))) b (le-bytes 8 (bitOr (wordAt m (p / 64)) (2 ^ (p % 64))))
 
-pub pages-bytes : (m : List ℕ) (p n : ℕ) → Bytes m → Bytes (markPages m p n)
+pub pages-bytes : (m : List ℕ) (p n : ℕ) → IsBytes m → IsBytes (markPages m p n)
 unfolding markPages
 pages-bytes m p zero b = b
 pages-bytes m p (suc n) b = mark-bytes (markPages m p n) (p + n) (pages-bytes m p n b)
@@ -90,7 +58,7 @@ bit-other i j n =
     (le-or-lt i j)
 
 -- ---- a mark that is set is there, and no other has changed; page p's word must lie within the marks
-module _ (m : List ℕ) (p : ℕ) (b : Bytes m) (within : 8 * (p / 64) + 8 ≤ length m) where
+module _ (m : List ℕ) (p : ℕ) (b : IsBytes m) (within : 8 * (p / 64) + 8 ≤ length m) where
   word-marked : wordAt (mark m p) (p / 64) ≡ bitOr (wordAt m (p / 64)) (2 ^ (p % 64))
   unfolding mark
   word-marked =
@@ -129,7 +97,7 @@ module _ (m : List ℕ) (p : ℕ) (b : Bytes m) (within : 8 * (p / 64) + 8 ≤ l
       (yes-no (eqb q p))
 
 -- ---- the same of n pages from p, all of which have their marks there
-module _ (m : List ℕ) (p : ℕ) (b : Bytes m) where
+module _ (m : List ℕ) (p : ℕ) (b : IsBytes m) where
   pub pages-there : (n q : ℕ) → p + n ≤ 64 * (length m / 8) → p ≤ q → q < p + n → marked (markPages m p n) q ≡ true
   unfolding markPages
   pages-there zero q l h k = absurd (omega arith)
@@ -160,11 +128,8 @@ module _ (m : List ℕ) (p : ℕ) (b : Bytes m) where
       let h : p ≤ q = leb-true p q (and-left (leb p q) (ltb q (p + n)) t) in
       let k : q < p + n = ltb-true q (p + n) (and-right (leb p q) (ltb q (p + n)) t) in
       rw t (pages-there n q (l (omega arith)) h k))
-      (λ t. rw t (pages-other n q l (λ h k. not-both (cc (and-both (leb p q) (ltb q (p + n)) (le-leb p q h) (lt-ltb q (p + n) k), t)))))
+      (λ t. rw t (pages-other n q l (λ h k. not-both (leb p q && ltb q (p + n)) (and-both (leb p q) (ltb q (p + n)) (le-leb p q h) (lt-ltb q (p + n) k)) t)))
       (yes-no (leb p q && ltb q (p + n)))
-    where
-      not-both : true ≡ false → ⊥
-      not-both e = let z : _≡_ {A = ℕ} 0 1 = cc in omega arith
 
 -- ---- the count: a word's ones are its bits' sum, so the words' ones are the marked pages
 ones-bits : (k w : ℕ) → w < 2 ^ k → ones w ≡ sumTo (λ j. w / 2 ^ j % 2) k
@@ -184,7 +149,7 @@ bit-pick zero h = refl
 bit-pick (suc zero) h = refl
 bit-pick (suc (suc x)) h = absurd (omega arith)
 
-module _ (m : List ℕ) (b : Bytes m) where
+module _ (m : List ℕ) (b : IsBytes m) where
   bits-are : (w j : ℕ) → j < 64 → wordAt m w / 2 ^ j % 2 ≡ pick (marked m (64 * w + j)) 1 0
   unfolding marked
   bits-are w j h =

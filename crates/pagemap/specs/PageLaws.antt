@@ -1,22 +1,22 @@
 -- What holds of the pages' definitions, as later layers ask it.
-use mathlib.Core.Path.{_≡_, refl, sym, ap, _∙_}
+use mathlib.Core.Path.{_≡_, refl, _∙_}
 use mathlib.Core.Bool.{Bool, true, false, _&&_}
-use mathlib.Core.List.{List, [], _∷_, _++_}
+use mathlib.Core.List.{List, [], _∷_}
 use mathlib.Core.Logic.{⊎-elim}
-use Prim.Native.Nat.{ℕ, zero, suc, _+_, _-_, _*_, _/_, _%_, _≤_, _<_, max}
+use Prim.Native.Nat.{ℕ, _+_, _-_, _*_, _/_, _%_, _≤_, _<_, max}
 use native.Mathlib.Omega.{arith}
 use native.Mathlib.Nat.{add-zero}
 use lib.ListN.{length, replicate, getD, length-append, length-replicate}
 use lib.Dec.{ltb, leb, eqb}
 use borrow.Author.Tests.{lt-ltb, ltb-true, leb-true, eqb-true, ne-eqb}
-use Rattle.util.specs.Pick.{pick, le-or-lt, passed, passed-on, both-ways, and-left, and-right, and-both}
+use Rattle.util.specs.Pick.{pick, le-or-lt, passed, passed-on, and-left, and-right, and-both}
 use Rattle.util.specs.Prefix.{allTo, all-at, all-of}
 use Rattle.arch.specs.Page.{PAGE-SIZE, pageOf, onPage}
 use Rattle.refusal.specs.Refusal.{NOT-MAPPED, NOT-ON-A-PAGE, NOT-WHOLE-PAGES}
-use Rattle.le.specs.Le.{part, splice, part-none, part-splice, splice-above, splice-below}
+use Rattle.le.specs.Le.{part, splice, part-none, part-splice, splice-out, IsBytes}
 use Rattle.pagemap.specs.Marks.{WORD-BYTES, marked, markPages, wordsFor}
-use Rattle.pagemap.specs.MarkLaws.{Bytes, length-pages, pages-there, pages-other}
-use Rattle.pagemap.specs.Pages.{lent, storageOk, mapped, spanMapped, probed, readCode, sliceCode, pagesLent, wholePages, paddedPages, pageWriteCode, paddedWriteCode, padded, capacityCode}
+use Rattle.pagemap.specs.MarkLaws.{length-pages, pages-there, pages-other}
+use Rattle.pagemap.specs.Pages.{lent, storageOk, mapped, spanMapped, probed, readCode, sliceCode, pagesLent, wholePages, paddedPages, pageWriteCode, paddedWriteCode, padded}
 
 nil-of : (l : List ℕ) → length l ≤ 0 → l ≡ []
 nil-of [] h = refl
@@ -188,7 +188,7 @@ pub record Written (image marks vs : List ℕ) (o n : ℕ) : Type 0 where
   pub readable : 0 < length vs → readCode (length image) (markPages marks (pageOf o) n) o (length vs) ≡ 0
   pub mapped-around : (k : ℕ) → (o ≤ k → k < o + length vs → ⊥) → mapped (length image) (markPages marks (pageOf o) n) k ≡ mapped (length image) marks k
 
-module _ (image marks vs : List ℕ) (o n : ℕ) (f : PagesFit (length image) (length marks) o n) (b : Bytes marks) (l : length vs ≡ n * PAGE-SIZE) where
+module _ (image marks vs : List ℕ) (o n : ℕ) (f : PagesFit (length image) (length marks) o n) (b : IsBytes marks) (l : length vs ≡ n * PAGE-SIZE) where
   -- the pages have their marks
   has-marks : 0 < n → pageOf o + n ≤ 64 * (length marks / 8)
   has-marks h =
@@ -207,8 +207,7 @@ module _ (image marks vs : List ℕ) (o n : ℕ) (f : PagesFit (length image) (l
       (le-or-lt (length vs) 0)
 
   wrote-around : (k : ℕ) → (o ≤ k → k < o + length vs → ⊥) → getD (splice image o vs) k 0 ≡ getD image k 0
-  wrote-around k h =
-      ⊎-elim (λ (z : o ≤ k). splice-above image o vs k (not-lt-le (h z))) (λ (z : k < o). splice-below image o vs k z) (le-or-lt o k)
+  wrote-around k h = splice-out image o vs k h
 
   wrote-mapped : 0 < length vs → spanMapped (length image) (markPages marks (pageOf o) n) o (length vs) ≡ true
   wrote-mapped h =
@@ -240,7 +239,7 @@ module _ (image marks vs : List ℕ) (o n : ℕ) (f : PagesFit (length image) (l
   }
 
 -- after a page write, an empty map and a padded write that are not refused
-module _ (image marks : List ℕ) (o : ℕ) (b : Bytes marks) where
+module _ (image marks : List ℕ) (o : ℕ) (b : IsBytes marks) where
   pub after-write : (items : List ℕ) → pageWriteCode (length image) (length marks) o (length items) ≡ 0 → Written image marks items o (wholePages (length items))
   after-write items e =
       written image marks items o (wholePages (length items)) (write-fits (length image) (length marks) o (length items) e) b

@@ -1,12 +1,11 @@
 -- Pages in lent storage: the image's bytes, page after page, and the marks (01, "pagemap.rs" and the refusals of read, page write, empty map and padded write).
-use mathlib.Core.Bool.{Bool, true, false, _&&_}
+use mathlib.Core.Bool.{Bool, true, _&&_}
 use mathlib.Core.List.{List, _++_}
-use Prim.Native.Nat.{ℕ, zero, suc, _+_, _-_, _*_, _/_, _%_, max}
+use Prim.Native.Nat.{ℕ, _+_, _-_, _*_, _/_, max}
 use lib.ListN.{length, replicate}
 use lib.Dec.{ltb, leb, eqb}
 use Rattle.util.specs.Pick.{pick}
 use Rattle.util.specs.Prefix.{allTo}
-use Rattle.util.specs.Align.{roundUp}
 use Rattle.arch.specs.Page.{PAGE-SIZE, pageOf, onPage}
 use Rattle.refusal.specs.Refusal.{STORAGE, NOT-MAPPED, NOT-ON-A-PAGE, NOT-WHOLE-PAGES}
 use Rattle.pagemap.specs.Marks.{WORD-BYTES, marked, wordsFor}

@@ -1,25 +1,20 @@
 -- The ways through the code. Assumes nothing.
 use mathlib.Core.Path.{_≡_, refl, sym, ap, _∙_}
-use mathlib.Core.Bool.{Bool, true, false, _&&_, _||_, not}
-use mathlib.Core.List.{List, _∷_}
-use Prim.Native.Nat.{ℕ, zero, suc, _+_, _-_, _*_, _/_, _%_, _^_, _≤_, _<_, min, max}
+use mathlib.Core.Bool.{Bool, true, false}
+use mathlib.Core.List.{List}
+use Prim.Native.Nat.{ℕ, zero, suc, _+_, _-_, _%_, _≤_, max}
 use native.Mathlib.Omega.{arith}
-use native.Mathlib.Nat.{pow-suc, one-le-pow}
-use lib.Arith.{mod-mul}
 use lib.Dec.{eqb, leb}
 use lib.ListN.{length}
-use borrow.Author.Tests.{eq-eqb, ne-eqb, eqb-true, leb-true, lt-leb}
-use Rattle.util.specs.Pick.{pick, yes-no, passed, passed-on}
-use Rattle.util.specs.Prefix.{allTo, all-loop}
-use Rattle.le.specs.Le.{le, splice, length-splice}
-use Rattle.refusal.specs.Refusal.{POSITION, STORAGE, NOT-MAPPED, unlessRefused, new-is, old-is}
+use borrow.Author.Tests.{ne-eqb, leb-true}
+use Rattle.util.specs.Pick.{pick, passed}
+use Rattle.le.specs.Le.{le, splice, le-low}
+use Rattle.refusal.specs.Refusal.{new-is, old-is}
 use Rattle.pagemap.specs.Pages.{storageOk}
 use Rattle.aspace.specs.Space.{spanAt}
-use Rattle.patch.specs.declared.answer.Progress.{Progress}
-use Rattle.patch.specs.declared.answer.Patch.{Patch}
 use Rattle.patch.specs.declared.answer.Patch.the-variants.{Applied, Refused}
-use Rattle.patch.specs.Fixes.{fixCount, placeAt, bitsAt, valueAt, widthOf, knownBits, fixOk, fixed, fixedFrom}
-use Rattle.patch.specs.Patch.{portion, portionOk, patchCode, answerOf, progress, patchAnswer, PatchIs, Patches}
+use Rattle.patch.specs.Fixes.{fixCount, placeAt, bitsAt, valueAt, widthOf, knownBits, fixOk, fixed, fixedFrom, length-from}
+use Rattle.patch.specs.Patch.{portion, portionOk, patchCode, answerOf, patchAnswer, Patches}
 
 -- ---- bits
 module _ (bits : ℕ) where
@@ -50,17 +45,6 @@ module _ (size : ℕ) (marks : List ℕ) (base : ℕ) (fixes : List ℕ) (k bits
   fix-no e = rw (← is, ← known, e)
 
 pub ruleset fix-ways = (fix-yes, fix-no)
-
--- the low n bytes do not see what is above them
-le-low : (n v : ℕ) → le n (v % 256 ^ n) ≡ le n v
-unfolding le
-le-low zero v = refl
-le-low (suc n) v =
-    let d : v % 256 ^ suc n ≡ (v / 256 % 256 ^ n) * 256 + v % 256
-    = ap (λ (m : ℕ). v % m) (pow-suc 256 n) ∙ mod-mul v {m = 256 ^ n} {c = 256} (one-le-pow n 256 (omega arith)) (omega arith) in
-    let a : v % 256 ^ suc n % 256 ≡ v % 256 = omega arith in
-    let b : v % 256 ^ suc n / 256 ≡ v / 256 % 256 ^ n = omega arith in
-    rw (a, b, le-low n (v / 256))
 
 module _ (base : ℕ) (fixes : List ℕ) (k : ℕ) (image after : List ℕ) (place m value bits : ℕ)
     (at : place ≡ placeAt fixes k) (top : m ≡ max place base) (is : value ≡ valueAt fixes k) (wide : bits ≡ bitsAt fixes k) where
@@ -95,13 +79,8 @@ module _ (base : ℕ) (fixes image : List ℕ) (p : ℕ) where
   pub from-end : (k n : ℕ) (now : List ℕ) → now ≡ fixedFrom base fixes image p k → k ≤ n → n ≤ k → now ≡ fixedFrom base fixes image p n
   from-end k n now e a b = let z : n ≡ k = omega arith in rw z e
 
-  length-from : (n : ℕ) → length (fixedFrom base fixes image p n) ≡ length image
-  unfolding fixedFrom fixed
-  length-from zero = refl
-  length-from (suc n) = length-splice _ _ _ ∙ length-from n
-
   pub from-long : (n : ℕ) (now : List ℕ) → now ≡ fixedFrom base fixes image p n → length now ≡ length image
-  from-long n now e = rw e (length-from n)
+  from-long n now e = rw e (length-from base fixes image p n)
 
 pub ruleset from-loop = (from-none, from-again, from-end, from-long)
 

@@ -1,11 +1,12 @@
 -- The fix list as bytes (docs/HOST.md), and what a fixup of it does to an image at a base (01, "Patch").
+use mathlib.Core.Path.{_≡_, refl, _∙_}
 use mathlib.Core.Bool.{Bool, _&&_, _||_}
 use mathlib.Core.List.{List}
 use Prim.Native.Nat.{ℕ, zero, suc, _+_, _-_, _*_, _/_}
 use lib.Dec.{eqb}
 use lib.ListN.{length}
 use Rattle.util.specs.Pick.{pick}
-use Rattle.le.specs.Le.{get, le, splice}
+use Rattle.le.specs.Le.{get, le, splice, length-splice}
 use Rattle.aspace.specs.Space.{spanAt}
 
 abbrev pub FIXUP-BYTES : ℕ
@@ -45,3 +46,9 @@ fixed base fixes image k = splice image (placeAt fixes k - base) (le (widthOf (b
 unfoldable pub fixedFrom : ℕ → List ℕ → List ℕ → ℕ → ℕ → List ℕ
 fixedFrom base fixes image p zero = image
 fixedFrom base fixes image p (suc n) = fixed base fixes (fixedFrom base fixes image p n) (p + n)
+
+-- fixups change no length
+pub length-from : (base : ℕ) (fixes image : List ℕ) (p n : ℕ) → length (fixedFrom base fixes image p n) ≡ length image
+unfolding fixedFrom fixed
+length-from base fixes image p zero = refl
+length-from base fixes image p (suc n) = length-splice _ _ _ ∙ length-from base fixes image p n

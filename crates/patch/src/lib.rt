@@ -6,9 +6,8 @@ pub use answer::Progress;
 use arch::VA;
 ghost use mathlib.Core.Path.{_≡_};
 ghost use Prim.Native.Nat.{_+_, _<_, _≤_};
-ghost use lib.ListN.{length};
 ghost use Rattle.patch.specs.Fixes.{fixCount, placeAt, bitsAt, valueAt, widthOf, knownBits, fixOk, fixed, fixedFrom};
-ghost use Rattle.patch.specs.Patch.{portion, portionOk, patchCode, answerOf, progress, Patches};
+ghost use Rattle.patch.specs.Patch.{portion, portionOk, patchCode, Patches};
 
 // The records of a fix list.
 pub fn fix_count(fixes: &[u8]) -> u64

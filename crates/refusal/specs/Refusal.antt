@@ -76,6 +76,12 @@ NOT-WHOLE-PAGES = 17
 abbrev pub TOO-LONG : ℕ
 TOO-LONG = 18
 
+abbrev pub NO-SECTION : ℕ
+NO-SECTION = 19
+
+abbrev pub NO-ENTRY : ℕ
+NO-ENTRY = 20
+
 -- What an operation says and leaves that writes one lent buffer, or two: `code` is the definition's, and on a refusal nothing has changed.
 pub record Leaves {A : Type 0} (code : ℕ) (old new at-exit : A) (r : Answer) : Type 0 where
   pub says : r ≡ doneOf code

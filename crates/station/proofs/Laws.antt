@@ -1,6 +1,6 @@
 -- The ways through the code. Assumes nothing.
 use mathlib.Core.Path.{_≡_, refl, subst, _∙_}
-use mathlib.Core.Bool.{Bool, true, false}
+use mathlib.Core.Bool.{true, false}
 use mathlib.Core.List.{List}
 use Prim.Native.Nat.{ℕ, zero, suc}
 use native.Mathlib.Omega.{arith}
@@ -8,7 +8,6 @@ use borrow.Author.Tests.{ne-eqb}
 use lib.Dec.{leb, eqb}
 use lib.ListN.{length}
 use Rattle.util.specs.Pick.{pick}
-use Rattle.le.specs.Le.{part}
 use Rattle.refusal.specs.Refusal.{STORAGE, doneOf, unlessRefused, Leaves}
 use Rattle.refusal.specs.declared.Answer.{Answer}
 use Rattle.refusal.specs.declared.Answer.the-variants.{Done, Refused}
@@ -18,12 +17,12 @@ use Rattle.survey.specs.declared.answer.Survey.{Survey}
 use Rattle.survey.specs.declared.answer.Survey.the-variants as survey
 use Rattle.survey.specs.Survey.{firstFailed, checks, counts, answerBy, surveyOf}
 use Rattle.tables.specs.Results.{COUNTS-BYTES, countsWords, PROGRESS-BYTES, progressWords}
-use Rattle.load.specs.Load.{Storage, LoadIs, Loads}
+use Rattle.load.specs.Load.{Storage, Loads}
 use Rattle.patch.specs.declared.answer.Progress.{Progress}
 use Rattle.patch.specs.declared.answer.Patch.{Patch}
 use Rattle.patch.specs.declared.answer.Patch.the-variants as patch
-use Rattle.patch.specs.Patch.{answerOf, PatchIs, Patches}
-use Rattle.station.specs.Station.{codeWith, written, Told, ToldBoth, Surveyed, Loaded, Patched, Read, answerCode, surveyCode, countsIn, CountsTold, patchAnswerCode, progressIn, ProgressTold}
+use Rattle.patch.specs.Patch.{answerOf, Patches}
+use Rattle.station.specs.Station.{codeWith, written, Told, ToldBoth, Surveyed, Loaded, Patched, answerCode, surveyCode, countsIn, CountsTold, patchAnswerCode, progressIn, ProgressTold}
 
 -- ---- an answer, told
 pub counts-accepted : (a : Survey) (c : Counts) (out out′ : List ℕ) → a ≡ survey.Accepted c → out′ ≡ written out (countsWords c) → CountsTold a out out′ 0

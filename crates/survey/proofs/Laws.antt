@@ -1,34 +1,28 @@
 -- The ways through the code. Assumes nothing.
 use mathlib.Core.Path.{_≡_, refl, sym, ap, _∙_, fun-ext}
-use mathlib.Core.Bool.{Bool, true, false, not, _&&_}
+use mathlib.Core.Bool.{Bool, true, false, not}
 use mathlib.Core.List.{List, [], _∷_, _++_}
-use Prim.Native.Nat.{ℕ, zero, suc, _+_, _-_, _*_, _/_, _≤_, _<_, _%_, _^_}
+use Prim.Native.Nat.{ℕ, zero, suc, _+_, _-_, _≤_, _<_, _%_, _^_}
 use native.Mathlib.Omega.{arith}
-use native.Mathlib.Numerals.{add-one}
-use lib.Dec.{eqb, leb}
-use lib.ListN.{getD, length, take, drop, replicate, length-replicate, length-take}
-use borrow.Author.Tests.{eq-eqb, ne-eqb, le-leb, lt-leb, not-true, not-false, leb-true}
+use lib.Dec.{eqb}
+use lib.ListN.{getD, length, take, replicate, length-take}
+use borrow.Author.Tests.{le-leb, lt-leb, not-true, not-false, leb-true}
 use Rattle.refusal.specs.Refusal.{PAGES, EXTERNS, TARGET, PLACE}
-use mathlib.Core.Logic.{_⊎_, ⊎-elim}
-use Rattle.util.specs.Pick.{pick, yes-no, and-left}
-use Rattle.util.specs.Prefix.{countTo}
+use Rattle.util.specs.Pick.{pick}
 use Rattle.arch.specs.declared.Arch.{Arch}
-use Rattle.arch.specs.declared.Arch.the-variants.{X32, X64}
+use Rattle.arch.specs.declared.Arch.the-variants.{X32}
 use Rattle.arch.specs.declared.Machine.{Machine}
 use Rattle.arch.specs.declared.Machine.the-variants.{Known, Unknown}
 use Rattle.arch.specs.Machine.{archOf}
-use Rattle.arch.specs.Page.{pageOf}
-use Rattle.le.specs.Le.{get, splice, part, part-splice}
-use Rattle.checks.specs.Checks.{sectionTableOk, symbolTableOk, stringsOk, pagesOk}
+use Rattle.le.specs.Le.{splice, part, part-front, filled}
+use Rattle.checks.specs.Checks.{pagesOk, relocationTotal}
 use Rattle.object.specs.declared.Header.{Header}
 use Rattle.object.specs.declared.Place.{Place}
 use Rattle.object.specs.declared.Place.the-variants.{In, Undefined, Common, Absolute, Nowhere, Other}
 use Rattle.object.specs.Format.{headerOf}
 use Rattle.object.specs.Symbol.{primaries, symbolPlace, listedValue}
-use Rattle.object.specs.SymbolLaws.{length-primaries}
-use Rattle.layout.specs.Layout.{undefStart, mappedPages}
+use Rattle.layout.specs.Layout.{undefStart, mappedPages, tableRecords}
 use Rattle.layout.specs.Home.{homesTo}
-use Rattle.layout.specs.HomeLaws.{length-homes}
 use Rattle.externs.specs.declared.Names.{Names}
 use Rattle.externs.specs.declared.Names.the-variants.{TooMany, Count}
 use Rattle.externs.specs.Puts.{isOwn}
@@ -45,8 +39,28 @@ use Rattle.survey.specs.declared.answer.Survey.{Survey}
 use Rattle.survey.specs.declared.answer.Survey.the-variants.{Accepted, Refused}
 use Rattle.survey.specs.Listed.{cellOf, listed, listedOffset, listedTotal}
 use Rattle.survey.specs.Survey.{Check, check, firstFailed, recordChecks, targetChecks, externChecks, archBy, tallyBy, countsBy, ownMap, homes, tally, checks, counts, answerBy, surveyOf}
-use Rattle.survey.specs.SurveyLaws.{Ordered, ordered, failed-first, records-rest, says-refused, filled, fits-is}
-use Rattle.survey.specs.Surveying.{Fits, plannedBy, answerFor, answerWith}
+use Rattle.survey.specs.SurveyLaws.{Ordered, ordered, failed-first, records-rest, says-refused, fits-is}
+use Rattle.survey.specs.Surveying.{plannedBy, answerWith}
+
+-- ---- the counts
+abbrev pub countsOf : Header → Tally → ℕ → ℕ → ℕ → ℕ → ℕ → Counts
+countsOf h t pages sections symbols n relocations =
+    record {
+      pages = pages;
+      sections = sections;
+      symbols = symbols;
+      externs = n;
+      fixups = t .fixups;
+      skips = t .skips;
+      passed = t .passed;
+      «file_sections» = h .sections;
+      «symbol_records» = h .symbols;
+      relocations = relocations;
+    }
+
+pub counts-are : (f : List ℕ) (h : Header) (map homes : List ℕ) (n p s y r : ℕ) (t : Tally) → p ≡ mappedPages f h → s ≡ tableRecords f h → y ≡ listedTotal f h map homes → r ≡ relocationTotal f h → countsOf h t p s y n r ≡ countsBy f h map homes n t
+unfolding countsBy
+counts-are f h map homes n p s y r t a b c d = rw (a, b, c, d)
 
 -- ---- listed symbols
 module _ (homes : List ℕ) (p : Place) where
@@ -95,24 +109,6 @@ module _ (f : List ℕ) (h : Header) (homes : List ℕ) (j c v : ℕ) (p : Place
   offset-some q w e z = rw (← q, ← w, ← e)
 
 pub ruleset offsets = (offset-none, offset-some)
-
-module _ (p : ℕ → Bool) where
-  pub count-none : 0 ≡ countTo p 0
-  unfolding countTo
-  count-none = refl
-
-  pub count-yes : (j c : ℕ) (r : Bool) → c ≡ countTo p j → r ≡ p j → r ≡ true → c + 1 ≡ countTo p (j + 1)
-  unfolding countTo pick
-  count-yes j c r e q d = rw (add-one j, ← e, ← q, d)
-
-  pub count-no : (j c : ℕ) (r : Bool) → c ≡ countTo p j → r ≡ p j → r ≡ false → c ≡ countTo p (j + 1)
-  unfolding countTo pick
-  count-no j c r e q d = rw (add-one j, ← e, ← q, d) (omega arith)
-
-  pub count-end : (j n m c : ℕ) → c ≡ countTo p j → j ≤ n → n ≤ j → n ≡ m → c ≡ countTo p m
-  count-end j n m c e a b q = let z : j ≡ m = omega arith in cc
-
-pub ruleset count-loop = (count-none, count-yes, count-no, count-end)
 
 -- ---- the chain of checks
 module _ (ok r : Bool) (n : ℕ) (cs : List Check) where
@@ -182,10 +178,6 @@ module _ (t : Tally) (c : Counts) where
 pub ruleset verdicts = (verdict-yes, verdict-outside, verdict-refused)
 
 -- ---- the extern names
-fits-take : (l : List ℕ) (n : ℕ) → part l 0 n ≡ take n l
-unfolding part
-fits-take l n = refl
-
 module _ (f : List ℕ) (h : Header) (map homes s : List ℕ) (r : Names) where
   pub externs-over : Holds (externsBy f h map) s r → r ≡ TooMany → Refused EXTERNS ≡ answerWith f h map homes
   unfolding Holds answerBy firstFailed pick
@@ -199,7 +191,7 @@ module _ (f : List ℕ) (h : Header) (map homes s : List ℕ) (r : Names) where
   unfolding Holds firstFailed pick
   externs-fit n w x k e q d =
       let z : (n ≤ 1024) × (take n s ≡ externsBy f h map) = rw e at k in
-      let g : w ≡ externsBy f h map = q ∙ fits-take s n ∙ z .1 in
+      let g : w ≡ externsBy f h map = q ∙ part-front s n ∙ z .1 in
       let m : length (externsBy f h map) ≤ 1024 = rw (← z .1, length-take) (omega (arith, z .0)) in
       rw (le-leb (length (externsBy f h map)) 1024 m) (rw g at d)
 
@@ -210,13 +202,13 @@ module _ (f : List ℕ) (h : Header) (x : Survey) where
   pub map-filled : (hs m w : List ℕ) → m ≡ splice (replicate 16384 0) 0 (primaries f h (h .symbols)) → h .symbols ≤ 16384 → w ≡ part m 0 (h .symbols)
       → x ≡ answerWith f h w hs → x ≡ answerWith f h (ownMap f h) hs
   map-filled hs m w e k q d =
-      let g : w ≡ ownMap f h = filled (ownMap f h) m w 16384 (h .symbols) e (length-primaries f h (h .symbols)) k q in
+      let g : w ≡ ownMap f h = filled _ m w 16384 (h .symbols) e k q in
       d ∙ ap (λ (l : List ℕ). answerWith f h l hs) g
 
   pub homes-filled : (map m w : List ℕ) → m ≡ splice (replicate 256 0) 0 (homesTo f h (h .sections)) → h .sections ≤ 256 → w ≡ part m 0 (h .sections)
       → x ≡ answerWith f h map w → x ≡ answerWith f h map (homes f h)
   homes-filled map m w e k q d =
-      let g : w ≡ homes f h = filled (homes f h) m w 256 (h .sections) e (length-homes f h (h .sections)) k q in
+      let g : w ≡ homes f h = filled _ m w 256 (h .sections) e k q in
       d ∙ ap (λ (l : List ℕ). answerWith f h map l) g
 
 pub ruleset arrays = (map-filled, homes-filled)

@@ -1,12 +1,12 @@
--- What acceptance gives: of every file that survey accepts. (`small.pack`'s accepted objects, and 01's small object among them, meet the hypothesis.)
-use mathlib.Core.Path.{_≡_, refl, sym, ap, _∙_}
+-- What acceptance gives: of every file that survey accepts, as the small object is (`demands: Table`).
+use mathlib.Core.Path.{_≡_, refl, ap, _∙_}
 use mathlib.Core.Bool.{Bool, true, false, not}
-use mathlib.Core.List.{List, [], _∷_, _++_}
+use mathlib.Core.List.{List, _++_}
 use mathlib.Core.Logic.{_⊎_, inl, inr, ⊎-elim}
-use Prim.Native.Nat.{ℕ, zero, suc, _+_, _*_, _/_, _≤_, _<_, _^_}
+use Prim.Native.Nat.{ℕ, _+_, _*_, _/_, _≤_, _<_, _^_}
 use native.Mathlib.Omega.{arith}
-use lib.Dec.{leb, eqb, ltb}
-use lib.ListN.{length}
+use lib.Dec.{eqb}
+use lib.ListN.{length, getD}
 use borrow.Author.Tests.{leb-true, not-false, lt-ltb, ne-eqb, eqb-true}
 use Rattle.util.specs.Pick.{pick, and-both}
 use Rattle.object.specs.declared.Header.{Header}
@@ -15,34 +15,36 @@ use Rattle.object.specs.declared.SymbolKind.the-variants as kinds
 use Rattle.object.specs.declared.Place.{Place}
 use Rattle.object.specs.declared.Place.the-variants as places
 use Rattle.object.specs.Format.{headerOf}
-use Rattle.object.specs.Section.{relocationCount}
+use Rattle.object.specs.Section.{loaded, relocationCount}
 use Rattle.object.specs.Symbol.{kind, symbolPlace}
 use Rattle.object.specs.Relocation.{relocationSymbol}
 use Rattle.names.specs.Name.{symbolText}
-use Rattle.layout.specs.Layout.{undefStart, mappedPages}
-use Rattle.checks.specs.Checks.{pagesOk, relocationTotal}
-use Rattle.externs.specs.declared.Found.{Found}
-use Rattle.externs.specs.declared.Found.the-variants.{At, Nothing}
+use Rattle.layout.specs.Layout.{startAt, undefStart, mappedPages}
+use Rattle.layout.specs.Home.{homeCell}
+use Rattle.layout.specs.HomeLaws.{loaded-has-home, homes-exact}
+use Rattle.checks.specs.Limits.{MAX-PAGES, MAX-EXTERNS}
+use Rattle.arch.specs.Page.{PAGE-SIZE}
+use Rattle.externs.specs.declared.Found.the-variants.{At}
 use Rattle.externs.specs.Puts.{outside, putsBy, putsName, isOwn, puts}
 use Rattle.externs.specs.Externs.{externs}
 use Rattle.externs.specs.Slot.{slotOf}
 use Rattle.externs.specs.SlotLaws.{Slot}
 use Rattle.externs.specs.ExternLaws.{externs-slot}
 use Rattle.fixups.specs.declared.Fix.{Fix}
-use Rattle.fixups.specs.declared.Tally.{Tally}
+use Rattle.fixups.specs.declared.Skip.{Skip}
 use Rattle.fixups.specs.declared.Target.{Target}
 use Rattle.fixups.specs.declared.Target.the-variants as targets
 use Rattle.fixups.specs.declared.Outcome.{Outcome}
 use Rattle.fixups.specs.declared.Outcome.the-variants.{Passed, Skipped, TurnedDown, Fixup}
 use Rattle.fixups.specs.Target.{slotTarget, slotFor, dataTarget, targetBy, targetOf}
-use Rattle.fixups.specs.Tally.{isPassed, isSkipped, isRefused, isFixup, isMapped, isOutside, howMany, tallyOf}
+use Rattle.fixups.specs.Tally.{isPassed, isRefused, isMapped, isOutside, howMany, tallyOf}
 use Rattle.fixups.specs.Lists.{fixList, skipList}
+use Rattle.fixups.specs.ListLaws.{Stands, fixup-listed, skip-listed}
 use Rattle.fixups.specs.TallyLaws.{all-counted, fixups-counted, skips-counted, none-anywhere}
-use Rattle.fixups.specs.OutcomeLaws.{FixFrom, fix-from}
+use Rattle.fixups.specs.OutcomeLaws.{fix-from, homed-not-passed}
 use Rattle.survey.specs.declared.answer.Counts.{Counts}
-use Rattle.survey.specs.declared.answer.Survey.{Survey}
-use Rattle.survey.specs.declared.answer.Survey.the-variants.{Accepted, Refused}
-use Rattle.survey.specs.Survey.{firstFailed, externChecks, targetChecks, ownMap, homes, outcomes, tally, countsBy, counts, checks, answerBy, surveyOf}
+use Rattle.survey.specs.declared.answer.Survey.the-variants.{Accepted}
+use Rattle.survey.specs.Survey.{firstFailed, externChecks, targetChecks, ownMap, homes, outcomes, tally, countsBy, counts, checks, surveyOf}
 use Rattle.survey.specs.SurveyLaws.{check-holds, checks-hold, Ordered, ordered, ordered-rest, tells-accepted}
 
 -- data and text outside the sections put their names
@@ -68,12 +70,12 @@ module _ (f : List ℕ) (c : Counts) (accepted : surveyOf f ≡ Accepted c) wher
   rest = ordered-rest f header (externChecks (length (externs f header)) ++ targetChecks (tally f header)) no-failure
 
   -- no more than 1,024 names
-  pub names-few : length (externs f header) ≤ 1024
-  names-few = leb-true (length (externs f header)) 1024 (check-holds _ _ _ rest)
+  pub names-few : length (externs f header) ≤ MAX-EXTERNS
+  names-few = leb-true (length (externs f header)) MAX-EXTERNS (check-holds _ _ _ rest)
 
   -- no more than 4,096 pages
-  pub pages-few : mappedPages f header ≤ 4096
-  pages-few = leb-true (mappedPages f header) 4096 (records-ordered .pages)
+  pub pages-few : mappedPages f header ≤ MAX-PAGES
+  pages-few = leb-true (mappedPages f header) MAX-PAGES (records-ordered .pages)
 
   -- ---- the relocations
   abbrev o : ℕ → ℕ → Outcome
@@ -107,12 +109,52 @@ module _ (f : List ℕ) (c : Counts) (accepted : surveyOf f ≡ Accepted c) wher
   unfolding countsBy tallyOf
   skips-listed = rw (← counts-are) (skips-counted o count (header .sections))
 
+  -- ---- the request's rule: whatever relocation of a loaded section is passed over is listed by section, record and reason, so that the host may stop there
+  -- a loaded section has a home, so none of its relocations is passed
+  loaded-homed : (i : ℕ) → i < header .sections → loaded f header i ≡ true → eqb (getD (homes f header) i 0) 0 ≡ false
+  unfolding homeCell
+  loaded-homed i a t =
+      let b = loaded-has-home f header i a t in
+      let e : getD (homes f header) i 0 ≡ startAt f header (b .section) + 1 =
+      homes-exact f header (header .sections) i pages-few a ∙ ap (homeCell f header) (b .is) in
+      ne-eqb (getD (homes f header) i 0) 0 (λ z. absurd (omega arith))
+
+  pub loaded-not-passed : (i k : ℕ) → i < header .sections → loaded f header i ≡ true → isPassed (o i k) ≡ false
+  loaded-not-passed i k a t =
+      homed-not-passed _ f header (ownMap f header) (homes f header) (undefStart f header) (slotOf f header (externs f header)) i k (loaded-homed i a t)
+
+  -- so each is a fixup of the fix list, or it is skipped and stands in the skip list, with its section from 1, its record from 0 and the reason
+  pub record IsFixed (i k : ℕ) : Type 0 where
+    pub fix : Fix
+    pub is : o i k ≡ Fixup fix
+    pub listed : Stands fix (fixList o count (header .sections))
+
+  pub record IsSkipped (i k : ℕ) : Type 0 where
+    pub reason : Skip
+    pub is : o i k ≡ Skipped reason
+    pub listed : Stands (record { section = i + 1; index = k; reason = reason }) (skipList o count (header .sections))
+
+  either-way : (i k : ℕ) → i < header .sections → k < count i → (x : Outcome) → o i k ≡ x → isPassed x ≡ false → isRefused x ≡ false
+      → IsFixed i k ⊎ IsSkipped i k
+  either-way i k a b Passed e p q = absurd (let w : _≡_ {A = ℕ} 0 1 = cc in omega arith)
+  either-way i k a b (Skipped r) e p q = inr (record { reason = r; is = e; listed = skip-listed o count (header .sections) i k a b r e })
+  either-way i k a b TurnedDown e p q = absurd (let w : _≡_ {A = ℕ} 0 1 = cc in omega arith)
+  either-way i k a b (Fixup x) e p q = inl (record { fix = x; is = e; listed = fixup-listed o count (header .sections) i k a b x e })
+
+  pub loaded-listed : (i k : ℕ) → i < header .sections → k < count i → loaded f header i ≡ true → IsFixed i k ⊎ IsSkipped i k
+  loaded-listed i k a b t = either-way i k a b (o i k) refl (loaded-not-passed i k a t) (none-refused i k a b)
+
+  -- a host that stops where the count of skips is not 0 lets by only files whose loaded sections have all their relocations in the fix list
+  pub no-skips-all-fixed : c .skips ≡ 0 → (i k : ℕ) → i < header .sections → k < count i → loaded f header i ≡ true → IsFixed i k
+  no-skips-all-fixed z i k a b t =
+      ⊎-elim (λ x. x) (λ s. absurd (let l = s .listed .inside in let n = skips-listed in omega arith)) (loaded-listed i k a b t)
+
   -- every byte of a fixup lies in mapped pages, and its place is an offset below 2^24
-  pub fixups-mapped : (i k : ℕ) (x : Fix) → i < header .sections → k < count i → o i k ≡ Fixup x → x .place + x .bits / 8 ≤ 4096 * mappedPages f header
+  pub fixups-mapped : (i k : ℕ) (x : Fix) → i < header .sections → k < count i → o i k ≡ Fixup x → x .place + x .bits / 8 ≤ PAGE-SIZE * mappedPages f header
   fixups-mapped i k x a b e =
       let z : isOutside (mappedPages f header) (o i k) ≡ false = none-anywhere (isOutside (mappedPages f header)) o count (header .sections) i k none-outside-all a b in
       let w : not (isMapped (mappedPages f header) x) ≡ false = rw e at z in
-      leb-true (x .place + x .bits / 8) (4096 * mappedPages f header) (not-false (isMapped (mappedPages f header) x) w)
+      leb-true (x .place + x .bits / 8) (PAGE-SIZE * mappedPages f header) (not-false (isMapped (mappedPages f header) x) w)
 
   pub places-fit : (i k : ℕ) (x : Fix) → i < header .sections → k < count i → o i k ≡ Fixup x → x .place < 2 ^ 24
   places-fit i k x a b e =
@@ -171,9 +213,9 @@ module _ (f : List ℕ) (c : Counts) (accepted : surveyOf f ≡ Accepted c) wher
   unfolding slotTarget pick
   data-has-slot i k a b own d t =
       let s = puts-a-slot i k a b (puts-data i k own d t) in
-      let n : s .index < 1024 = let m = names-few in omega (arith, s .inside) in
+      let n : s .index < MAX-EXTERNS = let m = names-few in omega (arith, s .inside) in
       record {
         index = s .index;
         inside = s .inside;
-        is = slot-of-data (relocationSymbol f header i k) d t ∙ rw (s .found, lt-ltb (s .index) 1024 n);
+        is = slot-of-data (relocationSymbol f header i k) d t ∙ rw (s .found, lt-ltb (s .index) MAX-EXTERNS n);
       }

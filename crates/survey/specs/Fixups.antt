@@ -16,6 +16,7 @@ use Rattle.layout.specs.Layout.{undefStart, mappedPages}
 use Rattle.layout.specs.LayoutLaws.{undef-fits}
 use Rattle.layout.specs.Home.{isHome}
 use Rattle.layout.specs.HomeLaws.{cell-most, homes-past, homes-exact}
+use Rattle.arch.specs.Page.{PAGE-SIZE}
 use Rattle.externs.specs.Externs.{externs}
 use Rattle.externs.specs.Slot.{slotOf}
 use Rattle.fixups.specs.declared.Fix.{Fix}
@@ -68,5 +69,5 @@ module _ (f : List ℕ) (c : Counts) (accepted : surveyOf f ≡ Accepted c) wher
   fixups-exact = every-fixup Exact o count (header .sections) fixup-exact
 
   pub fixups-inside : (j : ℕ) (d : Fix) → j < length (fixList o count (header .sections))
-      → (getD (fixList o count (header .sections)) j d) .place + (getD (fixList o count (header .sections)) j d) .bits / 8 ≤ 4096 * mappedPages f header
-  fixups-inside = every-fixup (λ x. x .place + x .bits / 8 ≤ 4096 * mappedPages f header) o count (header .sections) (fixups-mapped f c accepted)
+      → (getD (fixList o count (header .sections)) j d) .place + (getD (fixList o count (header .sections)) j d) .bits / 8 ≤ PAGE-SIZE * mappedPages f header
+  fixups-inside = every-fixup (λ x. x .place + x .bits / 8 ≤ PAGE-SIZE * mappedPages f header) o count (header .sections) (fixups-mapped f c accepted)

@@ -1,6 +1,6 @@
 -- Which symbols are listed, and where (01, "Layout, slots and fixups"): those with a positive section number whose section has a home, in file
 -- order, at the home's start plus their value. `map` marks the symbols' own records, `homes` keeps each section's home start and one, or 0.
-use mathlib.Core.Bool.{Bool, true, false, _&&_, not}
+use mathlib.Core.Bool.{Bool, _&&_, not}
 use mathlib.Core.List.{List}
 use Prim.Native.Nat.{ℕ, _+_, _-_}
 use lib.Dec.{eqb}

@@ -7,7 +7,7 @@ use lib.ListN.{length}
 use Rattle.refusal.specs.Refusal.{FILE-SIZE, MACHINE, SECTION-TABLE, SYMBOL-TABLE, SECTION-DATA, NAME, SECTION-NUMBER, PAGES, EXTERNS, TARGET, PLACE}
 use Rattle.util.specs.Pick.{pick}
 use Rattle.arch.specs.declared.Arch.{Arch}
-use Rattle.arch.specs.declared.Arch.the-variants.{X32, X64}
+use Rattle.arch.specs.declared.Arch.the-variants.{X32}
 use Rattle.arch.specs.declared.Machine.{Machine}
 use Rattle.arch.specs.declared.Machine.the-variants.{Known, Unknown}
 use Rattle.arch.specs.Machine.{archOf}
@@ -57,12 +57,12 @@ recordChecks f h =
     ∷ check (pagesOk f h) PAGES
     ∷ []
 
--- of what the relocations come to: n extern names, and the tally
-abbrev pub targetChecks : Tally → List Check
-targetChecks t = check (eqb (t .refused) 0) TARGET ∷ check (eqb (t .outside) 0) PLACE ∷ []
-
+-- 9, by the number of extern names; 10 and 11, by the tally
 abbrev pub externChecks : ℕ → List Check
 externChecks n = check (leb n MAX-EXTERNS) EXTERNS ∷ []
+
+abbrev pub targetChecks : Tally → List Check
+targetChecks t = check (eqb (t .refused) 0) TARGET ∷ check (eqb (t .outside) 0) PLACE ∷ []
 
 -- ---- what the relocations come to. An unknown machine is refused before this is asked.
 abbrev pub archBy : Machine → Arch
@@ -93,6 +93,7 @@ module _ (f : List ℕ) (h : Header) (map homes : List ℕ) where
       }
 
 module _ (f : List ℕ) (h : Header) where
+  -- which records are symbols' own, and the home of each section
   abbrev pub ownMap : List ℕ
   ownMap = primaries f h (h .symbols)
 
@@ -103,12 +104,14 @@ module _ (f : List ℕ) (h : Header) where
   abbrev pub outcomes : ℕ → ℕ → Outcome
   outcomes = outcomesBy f h ownMap homes (slotOf f h (externs f h))
 
+  -- how many of each outcome there are, and the counts that survey answers
   abbrev pub tally : Tally
   tally = tallyBy f h ownMap homes (slotOf f h (externs f h))
 
   abbrev pub counts : Counts
   counts = countsBy f h ownMap homes (length (externs f h)) tally
 
+  -- 1 to 11 in this order, each over the whole file
   abbrev pub checks : List Check
   checks = recordChecks f h ++ (externChecks (length (externs f h)) ++ targetChecks tally)
 

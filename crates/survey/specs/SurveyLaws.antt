@@ -1,28 +1,22 @@
 -- What an answer of survey says of the file.
-use mathlib.Core.Path.{_≡_, refl, sym, ap, _∙_}
-use mathlib.Core.Bool.{Bool, true, false, _||_, _&&_}
+use mathlib.Core.Path.{_≡_, refl, sym, _∙_}
+use mathlib.Core.Bool.{Bool, true, false}
 use mathlib.Core.List.{List, [], _∷_, _++_}
-use mathlib.Core.Logic.{_⊎_, inl, inr, ⊎-elim}
-use Prim.Native.Nat.{ℕ, zero, suc, _+_, _≤_, _<_}
+use mathlib.Core.Logic.{⊎-elim}
+use Prim.Native.Nat.{ℕ, zero, suc, _≤_}
 use native.Mathlib.Omega.{arith}
 use lib.Dec.{leb, eqb}
-use lib.ListN.{length, replicate, length-replicate}
-use borrow.Author.Tests.{leb-true, eq-eqb, ne-eqb}
-use Rattle.refusal.specs.Refusal.{FILE-SIZE, MACHINE, SECTION-TABLE, SYMBOL-TABLE, SECTION-DATA, NAME, SECTION-NUMBER, PAGES, EXTERNS, TARGET, PLACE}
-use Rattle.util.specs.Pick.{pick, yes-no, and-left, and-right, passed, passed-on}
+use borrow.Author.Tests.{leb-true, ne-eqb}
+use Rattle.util.specs.Pick.{pick, yes-no, and-left, passed, passed-on}
 use Rattle.object.specs.declared.Header.{Header}
 use Rattle.object.specs.Format.{headerOf}
 use Rattle.layout.specs.Layout.{mappedPages}
-use Rattle.checks.specs.Limits.{MAX-EXTERNS, MAX-SECTIONS, MAX-SYMBOLS, MAX-PAGES}
-use Rattle.checks.specs.Checks.{sizeOk, machineOk, sectionTableOk, symbolTableOk, stringsOk, sectionsOk, namesOk, numbersOk, pagesOk}
-use Rattle.externs.specs.Externs.{externs}
-use Rattle.fixups.specs.declared.Tally.{Tally}
+use Rattle.checks.specs.Limits.{MAX-SECTIONS, MAX-SYMBOLS, MAX-PAGES}
+use Rattle.checks.specs.Checks.{sizeOk, machineOk, sectionTableOk, symbolTableOk, sectionsOk, namesOk, numbersOk, pagesOk}
 use Rattle.survey.specs.declared.answer.Counts.{Counts}
-use Rattle.survey.specs.declared.answer.Survey.{Survey}
 use Rattle.survey.specs.declared.answer.Survey.the-variants.{Accepted, Refused}
-use Rattle.survey.specs.Survey.{Check, check, firstFailed, recordChecks, externChecks, targetChecks, tally, counts, checks, answerBy, surveyOf}
+use Rattle.survey.specs.Survey.{Check, check, firstFailed, recordChecks, answerBy}
 use Rattle.survey.specs.Surveying.{Fits}
-use Rattle.le.specs.Le.{splice, part, part-splice}
 
 -- ---- a list of checks without a failure
 module _ (ok : Bool) (n : ℕ) (cs : List Check) where
@@ -116,16 +110,16 @@ no-table : (f : List ℕ) → eqb ((headerOf f) .«symbol_table») 0 ≡ true �
 unfolding headerOf pick
 no-table f e = rw e
 
-few-symbols : (f : List ℕ) (h : Header) → h ≡ headerOf f → symbolTableOk f h ≡ true → h .symbols ≤ 16384
+few-symbols : (f : List ℕ) (h : Header) → h ≡ headerOf f → symbolTableOk f h ≡ true → h .symbols ≤ MAX-SYMBOLS
 unfolding symbolTableOk
 few-symbols f h q e =
     ⊎-elim (λ t. let z : h .symbols ≡ 0 = rw q (no-table f (rw q at t)) in omega arith)
-    (λ t. leb-true (h .symbols) 16384 (and-left (leb (h .symbols) 16384) _ (rw t at e)))
+    (λ t. leb-true (h .symbols) MAX-SYMBOLS (and-left (leb (h .symbols) MAX-SYMBOLS) _ (rw t at e)))
     (yes-no (eqb (h .«symbol_table») 0))
 
-few-sections : (f : List ℕ) (h : Header) → sectionTableOk f h ≡ true → h .sections ≤ 256
+few-sections : (f : List ℕ) (h : Header) → sectionTableOk f h ≡ true → h .sections ≤ MAX-SECTIONS
 unfolding sectionTableOk
-few-sections f h e = leb-true (h .sections) 256 (and-left (leb (h .sections) 256) _ e)
+few-sections f h e = leb-true (h .sections) MAX-SECTIONS (and-left (leb (h .sections) MAX-SECTIONS) _ e)
 
 module _ (f : List ℕ) (h : Header) (code : ℕ) where
   pub fits-is : h ≡ headerOf f → code ≡ firstFailed (recordChecks f h) → code ≡ 0 → Fits f h
@@ -134,14 +128,5 @@ module _ (f : List ℕ) (h : Header) (code : ℕ) where
       record {
         sections = few-sections f h (o .sectionTable);
         symbols = few-symbols f h q (o .symbolTable);
-        pages = leb-true (mappedPages f h) 4096 (o .pages);
+        pages = leb-true (mappedPages f h) MAX-PAGES (o .pages);
       }
-
--- a list that was put at the front of a cleared array, and taken from it
-part-whole : (z vs : List ℕ) (n : ℕ) → length vs ≡ n → n ≤ length z → part (splice z 0 vs) 0 n ≡ vs
-part-whole z vs n e k = rw (← e) (part-splice z 0 vs (omega arith))
-
-pub filled : (vs m w : List ℕ) (size n : ℕ) → m ≡ splice (replicate size 0) 0 vs → length vs ≡ n → n ≤ size → w ≡ part m 0 n → w ≡ vs
-filled vs m w size n e l k q =
-    let r : length {A = ℕ} (replicate size 0) ≡ size = length-replicate {A = ℕ} size 0 in
-    q ∙ ap (λ (x : List ℕ). part x 0 n) e ∙ part-whole (replicate size 0) vs n l (omega arith)

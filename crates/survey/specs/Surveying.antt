@@ -5,6 +5,7 @@ use lib.ListN.{length}
 use Rattle.object.specs.declared.Header.{Header}
 use Rattle.layout.specs.Layout.{mappedPages}
 use Rattle.refusal.specs.Refusal.{PAGES}
+use Rattle.checks.specs.Limits.{MAX-SECTIONS, MAX-SYMBOLS, MAX-PAGES}
 use Rattle.checks.specs.Checks.{pagesOk}
 use Rattle.externs.specs.Bisect.{bisect}
 use Rattle.externs.specs.Externs.{externsBy}
@@ -13,9 +14,9 @@ use Rattle.survey.specs.Survey.{check, firstFailed, externChecks, target
 
 -- the file's records fit the limits, so that the local arrays hold them
 pub record Fits (f : List ℕ) (h : Header) : Type 0 where
-  pub sections : h .sections ≤ 256
-  pub symbols : h .symbols ≤ 16384
-  pub pages : mappedPages f h ≤ 4096
+  pub sections : h .sections ≤ MAX-SECTIONS
+  pub symbols : h .symbols ≤ MAX-SYMBOLS
+  pub pages : mappedPages f h ≤ MAX-PAGES
 
 -- the answer by a map of the symbols' own records, homes, and extern names
 module _ (f : List ℕ) (h : Header) (map homes : List ℕ) where

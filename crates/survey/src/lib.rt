@@ -14,14 +14,14 @@ pub use listed::listed_offset;
 pub use listed::listed_total;
 use object::Header;
 ghost use mathlib.Core.Path.{_≡_};
-ghost use mathlib.Core.List.{_++_};
 ghost use Prim.Native.Nat.{_≤_, _%_, _^_};
 ghost use Rattle.arch.specs.Machine.{archOf};
+ghost use Rattle.checks.specs.Limits.{MAX-PAGES};
 ghost use Rattle.layout.specs.Layout.{undefStart, mappedPages};
 ghost use Rattle.externs.specs.Bisect.{bisect};
 ghost use lib.ListN.{length};
 ghost use Rattle.survey.specs.Survey.{firstFailed, recordChecks, targetChecks, archBy, tallyBy, countsBy, ownMap, homes, answerBy, surveyOf};
-ghost use Rattle.survey.specs.Surveying.{Fits, plannedBy, answerFor, answerWith};
+ghost use Rattle.survey.specs.Surveying.{Fits, plannedBy, answerWith};
 
 // The first of refusals 1 to 8 that applies, or 0.
 pub fn records_code(f: &[u8], h: Header) -> u64
@@ -80,7 +80,7 @@ pub fn page_total(f: &[u8], h: Header) -> u32
 }
 
 fn tally_by(f: &[u8], h: Header, map: &[u8], homes: &[u32], set: &[u32]) -> Tally
-    requires { ⌜ mappedPages (now f) h ≤ 4096 ⌝ }
+    requires { ⌜ mappedPages (now f) h ≤ MAX-PAGES ⌝ }
     ensures { λ r. ⌜ r ≡ tallyBy (now (f .entry)) h (now (map .entry)) (now (homes .entry)) (bisect (now (f .entry)) h (now (set .entry))) ⌝ }
 {
     let undef = undef_offset(f, h);
@@ -128,7 +128,7 @@ fn verdict(t: Tally, c: Counts) -> Survey
 
 // With the extern names known.
 fn survey_targets(f: &[u8], h: Header, map: &[u8], homes: &[u32], set: &[u32]) -> Survey
-    requires { ⌜ mappedPages (now f) h ≤ 4096 ⌝ }
+    requires { ⌜ mappedPages (now f) h ≤ MAX-PAGES ⌝ }
     ensures { λ r.
         ⌜ r ≡ answerBy (firstFailed (targetChecks (tallyBy (now (f .entry)) h (now (map .entry)) (now (homes .entry)) (bisect (now (f .entry)) h (now (set .entry))))))
         (countsBy (now (f .entry)) h (now (map .entry)) (now (homes .entry)) (length (now (set .entry))) (tallyBy (now (f .entry)) h (now (map .entry)) (now (homes .entry)) (bisect (now (f .entry)) h (now (set .entry))))) ⌝ }
@@ -150,7 +150,7 @@ pub fn survey_planned(f: &[u8], h: Header, map: &[u8], homes: &[u32], set: &[u32
 
 // Refusal 9, and what follows.
 fn survey_externs(f: &[u8], h: Header, map: &[u8], homes: &[u32]) -> Survey
-    requires { ⌜ mappedPages (now f) h ≤ 4096 ⌝ }
+    requires { ⌜ mappedPages (now f) h ≤ MAX-PAGES ⌝ }
     ensures { λ r. ⌜ r ≡ answerWith (now (f .entry)) h (now (map .entry)) (now (homes .entry)) ⌝ }
 {
     let mut set = [0u32; 1025];

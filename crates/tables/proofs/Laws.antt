@@ -2,7 +2,7 @@
 use mathlib.Core.Path.{_≡_, refl, sym, ap, _∙_}
 use mathlib.Core.Bool.{Bool, true, false}
 use mathlib.Core.List.{List, [], _∷_, _++_, append-nil}
-use Prim.Native.Nat.{ℕ, suc, _+_, _-_, _*_, _≤_, _<_}
+use Prim.Native.Nat.{ℕ, suc, _+_, _*_, _≤_, _<_}
 use native.Mathlib.Omega.{arith}
 use native.Mathlib.Numerals.{add-one}
 use lib.ListN.{getD, length, take, length-append}
@@ -18,29 +18,12 @@ use Rattle.object.specs.declared.Place.{Place}
 use Rattle.object.specs.Symbol.{kind, kindNumber, symbolPlace}
 use Rattle.survey.specs.Listed.{cellOf, listed, listedOffset}
 use Rattle.names.specs.declared.Name.{Name}
-use Rattle.names.specs.declared.Name.the-variants.{Good, Bad}
 use Rattle.tables.specs.Words.{wordBytes, nameStart, nameLength, Stepped}
 use Rattle.tables.specs.Sections.{sectionWords, sectionRecords, undefWords, sectionTable}
 use Rattle.tables.specs.Symbols.{symbolWords, symbolRecords, symbolTable}
 use Rattle.tables.specs.Externs.{externWords, externTable}
 use Rattle.tables.specs.TableLaws.{words-append, length-words, length-externs}
 use Rattle.tables.specs.Results.{progressWords}
-
--- ---- names
-module _ (name : Name) where
-  pub start-good : (at n : ℕ) → name ≡ Good at n → at ≡ nameStart name
-  start-good at n e = rw e
-
-  pub start-bad : name ≡ Bad → 0 ≡ nameStart name
-  start-bad e = rw e
-
-  pub length-good : (at n : ℕ) → name ≡ Good at n → n ≡ nameLength name
-  length-good at n e = rw e
-
-  pub length-bad : name ≡ Bad → 0 ≡ nameLength name
-  length-bad e = rw e
-
-pub ruleset name-ways = (start-good, start-bad, length-good, length-bad)
 
 -- ---- words
 -- records one behind another: what is written behind T joins it

@@ -4,12 +4,12 @@ use Prim.Native.Nat.{ℕ, zero, suc, _+_, _*_}
 use lib.ListN.{getD}
 use Rattle.object.specs.declared.Header.{Header}
 use Rattle.names.specs.Name.{symbolName}
-use Rattle.fixups.specs.Target.{SLOT-SIZE}
+use Rattle.layout.specs.Layout.{SLOT-SIZE}
 use Rattle.tables.specs.Words.{wordBytes, nameStart, nameLength}
 
--- slot address, symbol number, name start, name length
-abbrev pub EXTERN-WORDS : ℕ
-EXTERN-WORDS = 4
+-- a record is four words: slot address, symbol number, name start, name length
+abbrev pub EXTERN-BYTES : ℕ
+EXTERN-BYTES = 32
 
 module _ (f : List ℕ) (h : Header) (base undef : ℕ) (set : List ℕ) where
   unfoldable pub externWords : ℕ → List ℕ

@@ -1,26 +1,26 @@
 -- The tables of fixups and of skips (01, "Layout, slots and fixups"), in section and record order.
 use mathlib.Core.Path.{_≡_}
-use mathlib.Core.List.{List, [], _∷_, _++_}
+use mathlib.Core.List.{List, [], _∷_}
 use lib.ListN.{length}
 use Rattle.le.specs.Le.{splice}
 use Rattle.tables.specs.declared.Places.{Places}
-use Prim.Native.Nat.{ℕ, zero, suc, _+_, _*_, _%_, _^_, _≤_}
+use Prim.Native.Nat.{ℕ, _+_, _*_, _%_, _^_, _≤_}
 use Rattle.fixups.specs.declared.Skip.{Skip}
 use Rattle.fixups.specs.declared.Fix.{Fix}
 use Rattle.fixups.specs.declared.Outcome.{Outcome}
 use Rattle.fixups.specs.declared.Outcome.the-variants.{Passed, Skipped, TurnedDown, Fixup}
 use Rattle.fixups.specs.Target.{skipNumber}
 use Rattle.fixups.specs.Value.{valueOf}
-use Rattle.fixups.specs.Lists.{recordsTo, sectionsTo}
+use Rattle.fixups.specs.Lists.{sectionsTo}
 use Rattle.tables.specs.Words.{wordBytes}
 
--- place, bits, value in two's complement
-abbrev pub FIXUP-WORDS : ℕ
-FIXUP-WORDS = 3
+-- a record is three words: place, bits, value in two's complement
+abbrev pub FIXUP-BYTES : ℕ
+FIXUP-BYTES = 24
 
--- section from 1, record from 0, reason 1 to 4
-abbrev pub SKIP-WORDS : ℕ
-SKIP-WORDS = 3
+-- three words: section from 1, record from 0, reason 1 to 4
+abbrev pub SKIP-BYTES : ℕ
+SKIP-BYTES = 24
 
 -- the address of the place is below 2^64 for every file that is accepted
 unfoldable pub fixWords : ℕ → Fix → List ℕ
@@ -57,10 +57,10 @@ skipTable o count n = sectionsTo (skipBytesAt o) count n
 
 -- ---- what the parts of the pass promise: F and S written behind p's records, and counted
 pub record Written (p : Places) (F S b b′ c c′ : List ℕ) (q : Places) : Type 0 where
-  pub fixes : b′ ≡ splice b (24 * p .fixups) F
-  pub skips : c′ ≡ splice c (24 * p .skips) S
-  pub fixCount : 24 * q .fixups ≡ 24 * p .fixups + length F
-  pub skipCount : 24 * q .skips ≡ 24 * p .skips + length S
+  pub fixes : b′ ≡ splice b (FIXUP-BYTES * p .fixups) F
+  pub skips : c′ ≡ splice c (SKIP-BYTES * p .skips) S
+  pub fixCount : FIXUP-BYTES * q .fixups ≡ FIXUP-BYTES * p .fixups + length F
+  pub skipCount : SKIP-BYTES * q .skips ≡ SKIP-BYTES * p .skips + length S
 
 -- no more than n records more
 pub record Near (p q : Places) (n : ℕ) : Type 0 where

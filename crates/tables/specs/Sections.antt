@@ -9,9 +9,9 @@ use Rattle.object.specs.Section.{loaded, fileStart, fileEnd, rangeLength, permi
 use Rattle.names.specs.Name.{sectionName}
 use Rattle.tables.specs.Words.{wordBytes, nameStart, nameLength}
 
--- start, end, file start, file end, permissions, name start, name length, section number from 1
-abbrev pub SECTION-WORDS : ℕ
-SECTION-WORDS = 8
+-- a record is eight words: start, end, file start, file end, permissions, name start, name length, section number from 1
+abbrev pub SECTION-BYTES : ℕ
+SECTION-BYTES = 64
 
 abbrev pub READ : ℕ
 READ = 1

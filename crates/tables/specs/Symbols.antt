@@ -1,8 +1,7 @@
 -- The symbol table (01, "Layout, slots and fixups"): the listed symbols in file order. `map` marks the symbols' own records, `homes` and
 -- `records` keep each section's home.
 use mathlib.Core.List.{List, [], _∷_, _++_}
-use Prim.Native.Nat.{ℕ, zero, suc, _+_, _-_}
-use lib.ListN.{getD}
+use Prim.Native.Nat.{ℕ, zero, suc, _+_}
 use Rattle.util.specs.Pick.{pick}
 use Rattle.object.specs.declared.Header.{Header}
 use Rattle.object.specs.Symbol.{kind, kindNumber, symbolPlace}
@@ -10,9 +9,9 @@ use Rattle.names.specs.Name.{symbolName}
 use Rattle.survey.specs.Listed.{cellOf, listed, listedOffset}
 use Rattle.tables.specs.Words.{wordBytes, nameStart, nameLength}
 
--- address, kind, name start, name length, symbol number, home
-abbrev pub SYMBOL-WORDS : ℕ
-SYMBOL-WORDS = 6
+-- a record is six words: address, kind, name start, name length, symbol number, home
+abbrev pub SYMBOL-BYTES : ℕ
+SYMBOL-BYTES = 48
 
 -- the home of a symbol is its section's record in the section table
 unfoldable pub symbolWords : List ℕ → Header → ℕ → List ℕ → List ℕ → ℕ → List ℕ

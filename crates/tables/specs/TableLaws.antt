@@ -3,28 +3,27 @@ use mathlib.Core.Path.{_≡_, refl, sym, ap, _∙_}
 use mathlib.Core.Bool.{Bool, true, false}
 use mathlib.Core.List.{List, [], _∷_, _++_, append-assoc, append-nil}
 use mathlib.Core.Logic.{⊎-elim}
-use Prim.Native.Nat.{ℕ, zero, suc, _+_, _*_, _/_, _%_, _^_, _≤_, _<_}
+use Prim.Native.Nat.{ℕ, zero, suc, _+_, _*_, _%_, _^_, _≤_, _<_}
 use native.Mathlib.Omega.{arith}
-use native.Mathlib.Nat.{zero-add, add-zero, suc-add, pow-suc, one-le-pow, mod-mod, mul-le-mul-left, not-suc-le-zero, le-of-suc-le-suc, eq-or-lt-of-le}
-use lib.Arith.{mod-mul}
+use native.Mathlib.Nat.{zero-add, add-zero, mod-mod, mul-le-mul-left, not-suc-le-zero, le-of-suc-le-suc, eq-or-lt-of-le}
 use lib.ListN.{length, getD, length-append, List·getD-append}
 use lib.Seq.{getD-append-add, getD-append-seam}
 use Rattle.util.specs.Pick.{pick, yes-no}
 use Rattle.util.specs.Prefix.{countTo}
-use Rattle.le.specs.Le.{get, le, splice, get-same, length-le, splice-in}
+use Rattle.le.specs.Le.{get, le, splice, get-same, get-low, length-le, splice-in}
 use Rattle.arch.specs.Page.{PAGE-SIZE}
 use Rattle.object.specs.declared.Header.{Header}
 use Rattle.object.specs.Section.{loaded, fileStart, fileEnd, rangeLength, permissions}
 use Rattle.object.specs.Symbol.{kind, kindNumber, symbolPlace}
 use Rattle.names.specs.Name.{sectionName, symbolName}
-use Rattle.layout.specs.Layout.{recordOf, tableRecords}
+use Rattle.layout.specs.Layout.{SLOT-SIZE, recordOf, tableRecords}
 use Rattle.survey.specs.Listed.{cellOf, listed, listedOffset, listedTotal}
 use Rattle.fixups.specs.declared.Skip.{Skip}
 use Rattle.fixups.specs.declared.Skip.the-variants.{NoSymbol, NoHome, NoSlot, NoType}
 use Rattle.fixups.specs.declared.Fix.{Fix}
 use Rattle.fixups.specs.declared.Outcome.{Outcome}
 use Rattle.fixups.specs.declared.Outcome.the-variants.{Passed, Skipped, TurnedDown, Fixup}
-use Rattle.fixups.specs.Target.{skipNumber, SLOT-SIZE}
+use Rattle.fixups.specs.Target.{skipNumber}
 use Rattle.fixups.specs.Value.{valueOf}
 use Rattle.fixups.specs.Tally.{isFixup, isSkipped, howMany}
 use Rattle.fixups.specs.TallyLaws.{fixups-counted, skips-counted}
@@ -36,18 +35,6 @@ use Rattle.tables.specs.Symbols.{symbolWords, symbolRecords, symbolTable
 use Rattle.tables.specs.Externs.{externWords, externTable}
 
 -- ---- words
--- the bytes of a number give its low part
-get-low : (n v : ℕ) → get n (le n v) 0 ≡ v % 256 ^ n
-unfolding get le
-get-low zero v = omega arith
-get-low (suc n) v =
-    let e : 256 ^ suc n ≡ 256 ^ n * 256 = pow-suc _ _ in
-    let tail : get n (v % 256 ∷ le n (v / 256)) 1 ≡ get n (le n (v / 256)) 0 =
-    get-same n (v % 256 ∷ le n (v / 256)) (le n (v / 256)) 1 0 (λ k p. rw suc-add) in
-    let r : get n (le n (v / 256)) 0 ≡ v / 256 % 256 ^ n = get-low n (v / 256) in
-    let d : v % (256 ^ n * 256) ≡ (v / 256 % 256 ^ n) * 256 + v % 256 = mod-mul v {m = 256 ^ n} {c = 256} (one-le-pow n 256 (omega arith)) (omega arith) in
-    rw e (rw d (omega arith))
-
 pub words-append : (xs ys : List ℕ) → wordBytes (xs ++ ys) ≡ wordBytes xs ++ wordBytes ys
 unfolding wordBytes
 words-append [] ys = refl

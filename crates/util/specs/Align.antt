@@ -1,6 +1,6 @@
 -- Rounding up to a multiple (01, "util.rs").
-use mathlib.Core.Path.{_≡_, refl, sym, ap, _∙_}
-use Prim.Native.Nat.{ℕ, zero, suc, _+_, _-_, _*_, _/_, _%_, _^_, _≤_, _<_}
+use mathlib.Core.Path.{_≡_}
+use Prim.Native.Nat.{ℕ, _+_, _-_, _*_, _/_, _%_, _^_, _≤_, _<_}
 use native.Mathlib.Omega.{arith}
 use native.Mathlib.Nat.{div-add-mod', mod-lt, add-mul, one-mul, div-mul-le-self, lt-div-mul-add, div-eq-of-lt-le, mul-mod-left, mod-eq-of-lt, lt-of-lt-of-le}
 use mathlib.Core.Logic.{⊎-elim}

@@ -1,10 +1,10 @@
 -- One of two by a test: the `if` of every definition. Below it the laws of tests, in the forms that the code's branches leave.
-use mathlib.Core.Path.{_≡_, refl, sym, ap, _∙_}
+use mathlib.Core.Path.{_≡_, refl, sym}
 use mathlib.Core.Bool.{Bool, true, false, _&&_, _||_, not, and-false, or-true}
 use mathlib.Core.Logic.{_⊎_, inl, inr, ⊎-elim}
 use Prim.Native.Nat.{ℕ, _+_, _-_, _≤_, _<_}
 use native.Mathlib.Omega.{arith}
-use borrow.Author.Tests.{leb-true, leb-false, lt-ltb, le-ltb, le-leb, lt-leb, eq-eqb, ne-eqb, not-true, not-false}
+use borrow.Author.Tests.{leb-true, leb-false, ltb-true, lt-ltb, le-ltb, le-leb, lt-leb, eq-eqb, ne-eqb, not-true, not-false}
 use lib.Dec.{ltb, leb, eqb}
 
 unfoldable pub pick : {A : Type 0} → Bool → A → A → A
@@ -21,6 +21,16 @@ le-or-lt a b = ⊎-elim (λ e. inl (leb-true a b e)) (λ e. inr (leb-false a b e
 
 pub three-ways : (a b : ℕ) → (a < b) ⊎ ((a ≡ b) ⊎ (b < a))
 three-ways a b = ⊎-elim (λ h. ⊎-elim (λ k. inr (inl (omega arith))) (λ k. inl k) (le-or-lt b a)) (λ k. inr (inr k)) (le-or-lt a b)
+
+-- no test says both
+pub not-both : {A : Type 0} (b : Bool) → b ≡ true → b ≡ false → A
+not-both b t e = let z : _≡_ {A = ℕ} 0 1 = cc in absurd (omega arith)
+
+-- what holds of both holds of the one that is picked
+pub pick-either : {A : Type 0} (P : A → Type 0) (b : Bool) (s t : A) → (b ≡ true → P s) → P t → P (pick b s t)
+unfolding pick
+pick-either P true s t x y = x refl
+pick-either P false s t x y = y
 
 -- two tests are one where each gives the other
 pub both-ways : (a b : Bool) → (a ≡ true → b ≡ true) → (b ≡ true → a ≡ true) → a ≡ b
@@ -53,6 +63,9 @@ passed-on false a b e n = absurd (n e)
 -- two orders are one test where each gives the other
 pub leb-same : (a b c d : ℕ) → (a ≤ b → c ≤ d) → (c ≤ d → a ≤ b) → leb a b ≡ leb c d
 leb-same a b c d f g = both-ways (leb a b) (leb c d) (λ e. le-leb c d (f (leb-true a b e))) (λ e. le-leb a b (g (leb-true c d e)))
+
+pub ltb-same : (a b c d : ℕ) → (a < b → c < d) → (c < d → a < b) → ltb a b ≡ ltb c d
+ltb-same a b c d f g = both-ways (ltb a b) (ltb c d) (λ e. lt-ltb c d (f (ltb-true a b e))) (λ e. lt-ltb a b (g (ltb-true c d e)))
 
 -- len places from `at` lie within m, without the sum
 pub within-no : (at len m : ℕ) → m < len → false ≡ leb (at + len) m

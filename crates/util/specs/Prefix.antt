@@ -1,11 +1,14 @@
--- Recursion over the numbers below n: each of them passes a test; one of them does; a sum over them; how many of them pass. Below each the laws of a loop that computes it.
+-- Recursion over the numbers below n: each of them passes a test; one of them does; a sum over them; how many of them pass; a list over them. Below each the laws of a loop that computes it.
 use mathlib.Core.Path.{_≡_, refl, sym, ap, _∙_}
 use mathlib.Core.Bool.{Bool, true, false, _&&_, _||_, not, and-false, or-true}
+use mathlib.Core.List.{List, [], _∷_, _++_}
 use mathlib.Core.Logic.{⊎-elim}
-use Prim.Native.Nat.{ℕ, zero, suc, _+_, _-_, _*_, _≤_, _<_}
+use Prim.Native.Nat.{ℕ, zero, suc, _+_, _*_, _≤_, _<_}
 use native.Mathlib.Nat.{not-suc-le-zero, le-of-suc-le-suc, eq-or-lt-of-le}
 use native.Mathlib.Numerals.{add-one}
 use native.Mathlib.Omega.{arith}
+use lib.ListN.{length, getD, length-append, List·getD-append, List·getD-eq-default}
+use lib.Seq.{getD-append-seam}
 use borrow.Author.Tests.{not-true, not-false}
 use Rattle.util.specs.Pick.{pick, and-left, and-right, and-both}
 
@@ -24,6 +27,10 @@ sumTo f (suc n) = sumTo f n + f n
 unfoldable pub countTo : (ℕ → Bool) → ℕ → ℕ
 countTo p zero = 0
 countTo p (suc n) = countTo p n + pick (p n) 1 0
+
+unfoldable pub listTo : {A : Type 0} → (ℕ → A) → ℕ → List A
+listTo g zero = []
+listTo g (suc n) = listTo g n ++ (g n ∷ [])
 
 -- ---- all of them
 module _ (p : ℕ → Bool) where
@@ -151,3 +158,40 @@ pub count-is-sum : (p : ℕ → Bool) (n : ℕ) → countTo p n ≡ sumTo (λ i.
 unfolding countTo sumTo
 count-is-sum p zero = refl
 count-is-sum p (suc n) = let r = count-is-sum p n in omega arith
+
+-- ---- how many pass
+module _ (p : ℕ → Bool) where
+  pub count-none : 0 ≡ countTo p 0
+  unfolding countTo
+  count-none = refl
+
+  pub count-yes : (i c : ℕ) (r : Bool) → c ≡ countTo p i → r ≡ p i → r ≡ true → c + 1 ≡ countTo p (i + 1)
+  unfolding countTo pick
+  count-yes i c r e q d = rw (add-one i, ← e, ← q, d)
+
+  pub count-no : (i c : ℕ) (r : Bool) → c ≡ countTo p i → r ≡ p i → r ≡ false → c ≡ countTo p (i + 1)
+  unfolding countTo pick
+  count-no i c r e q d = rw (add-one i, ← e, ← q, d) (omega arith)
+
+  pub count-end : (i n m c : ℕ) → c ≡ countTo p i → i ≤ n → n ≤ i → n ≡ m → c ≡ countTo p m
+  count-end i n m c e a b q = let z : i ≡ m = omega arith in cc
+
+pub ruleset count-loop = (count-none, count-yes, count-no, count-end)
+
+-- ---- a list: it has an element for each number, in their order, and reads as the default behind them
+module _ {A : Type 0} (g : ℕ → A) where
+  pub length-list : (n : ℕ) → length (listTo g n) ≡ n
+  unfolding listTo
+  length-list zero = refl
+  length-list (suc n) = simp (length-append, length-list n) (omega arith)
+
+  pub list-at : (d : A) (n i : ℕ) → i < n → getD (listTo g n) i d ≡ g i
+  unfolding listTo
+  list-at d zero i h = absurd (not-suc-le-zero h)
+  list-at d (suc n) i h =
+      ⊎-elim (λ e. rw e (rw (length-list n) at (getD-append-seam (listTo g n) (g n) [] d)))
+      (λ lt. List·getD-append (listTo g n) (g n ∷ []) d i (rw (length-list n) lt) ∙ list-at d n i lt)
+      (eq-or-lt-of-le (le-of-suc-le-suc h))
+
+  pub list-past : (d : A) (n i : ℕ) → n ≤ i → getD (listTo g n) i d ≡ d
+  list-past d n i h = List·getD-eq-default (listTo g n) d {n = i} (rw (length-list n) h)

@@ -1,4 +1,5 @@
 use borrow.Author.Needs.{needs}
+use Rattle.checks.proofs.Laws.{pages-are}
 use Rattle.checks.proofs.pages_ok.Statement.{statement}
 use Rattle.checks.proofs.pages_ok.Tie as tie
 
@@ -7,4 +8,4 @@ pages-ok-spec =
     tie.close
     (tie.spec
     (λ c. search needs)
-    (λ c. cc))
+    (λ c. search (needs, pages-are)))

@@ -1,6 +1,6 @@
 use borrow.Author.Needs.{needs}
 use Rattle.util.specs.Prefix.{sum-loop}
-use Prim.Native.Nat.{_+_, _-_, _*_, _≤_}
+use Prim.Native.Nat.{_-_, _*_, _≤_}
 use mathlib.Core.Path.{_≡_}
 use Rattle.util.specs.Prefix.{sumTo}
 use Rattle.object.specs.Section.{relocationCount}

@@ -1,6 +1,6 @@
 use borrow.Author.Needs.{needs}
 use Rattle.demands.proofs.Laws.{run-loop}
-use Prim.Native.Nat.{_+_, _-_, _≤_}
+use Prim.Native.Nat.{_-_, _≤_}
 use mathlib.Core.Path.{_≡_}
 use Rattle.demands.specs.Calls.{afterCalls}
 use Rattle.demands.specs.Running.{callsTo}

@@ -1,8 +1,8 @@
 use borrow.Author.Needs.{needs}
 use Rattle.externs.proofs.Laws.{records-loop}
-use Prim.Native.Nat.{_+_, _-_, _*_, _≤_, _<_}
+use Prim.Native.Nat.{_-_, _≤_, _<_}
 use mathlib.Core.Path.{_≡_}
-use lib.ListN.{length, drop}
+use lib.ListN.{length}
 use Rattle.externs.specs.Externs.{externRecords}
 use Rattle.externs.specs.Held.{held}
 use Rattle.externs.proofs.add_records.Statement.{statement}

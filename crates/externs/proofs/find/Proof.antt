@@ -1,16 +1,16 @@
 use borrow.Author.Needs.{needs}
 use Rattle.externs.proofs.Laws.{spot-loop}
 use Rattle.externs.proofs.Laws.{Passed}
-use Prim.Native.Nat.{_+_, _-_, _*_, _≤_, _<_}
+use Prim.Native.Nat.{_-_, _≤_}
 use Rattle.externs.specs.Held.{held}
 use Rattle.externs.proofs.find.Statement.{statement}
 use Rattle.externs.proofs.find.Tie as tie
 
 abbrev Inv-loop : tie.InvT-loop
-Inv-loop f h set n j p₀ p = (p ≤ n) × Passed f h j (held n set) p
+Inv-loop f h set n j name p₀ p = (p ≤ n) × Passed f h j (held n set) p
 
 abbrev μ-loop : tie.MeasureT-loop
-μ-loop f h set n j p₀ p = n - p
+μ-loop f h set n j name p₀ p = n - p
 
 pub find-spec : {M : Type 1} → statement M
 find-spec =
@@ -18,6 +18,7 @@ find-spec =
     (tie.spec
     Inv-loop
     μ-loop
+    (λ c. search (needs, spot-loop))
     (λ c. search (needs, spot-loop))
     (λ c. search (needs, spot-loop))
     (λ c. search (needs, spot-loop))

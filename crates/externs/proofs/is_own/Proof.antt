@@ -1,4 +1,5 @@
 use borrow.Author.Needs.{needs}
+use Rattle.externs.proofs.Laws.{own-is}
 use Rattle.externs.proofs.is_own.Statement.{statement}
 use Rattle.externs.proofs.is_own.Tie as tie
 
@@ -7,4 +8,4 @@ is-own-spec =
     tie.close
     (tie.spec
     (λ c. search needs)
-    (λ c. cc))
+    (λ c. search (needs, own-is)))

@@ -1,7 +1,7 @@
 use borrow.Author.Needs.{needs}
 use Rattle.externs.proofs.Laws.{shift-loop}
 use Rattle.externs.proofs.Laws.{Shifted}
-use Prim.Native.Nat.{_+_, _-_, _*_, _≤_, _<_}
+use Prim.Native.Nat.{_≤_}
 use Rattle.externs.proofs.put.Statement.{statement}
 use Rattle.externs.proofs.put.Tie as tie
 

@@ -1,8 +1,8 @@
 use borrow.Author.Needs.{needs}
 use Rattle.util.specs.Prefix.{any-loop}
-use Prim.Native.Nat.{_+_, _-_, _*_, _≤_, _<_}
+use Prim.Native.Nat.{_-_, _≤_}
 use mathlib.Core.Path.{_≡_}
-use mathlib.Core.Bool.{true, false}
+use mathlib.Core.Bool.{false}
 use Rattle.util.specs.Prefix.{anyTo}
 use Rattle.externs.specs.Puts.{hasName}
 use Rattle.externs.proofs.section_named.Statement.{statement}

@@ -1,4 +1,5 @@
 use borrow.Author.Needs.{needs}
+use Rattle.image.proofs.Laws.{laid-is}
 use Rattle.image.proofs.lay.Statement.{statement}
 use Rattle.image.proofs.lay.Tie as tie
 
@@ -11,4 +12,4 @@ lay-spec =
     (λ c. search needs)
     (λ c. search needs)
     (λ c. search needs)
-    (λ c. cc))
+    (λ c. search (needs, laid-is)))

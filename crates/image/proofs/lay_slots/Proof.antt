@@ -1,6 +1,6 @@
 use borrow.Author.Needs.{needs}
 use Rattle.image.proofs.Laws.{slots-loop}
-use Prim.Native.Nat.{_+_, _-_, _*_, _≤_}
+use Prim.Native.Nat.{_-_, _≤_}
 use mathlib.Core.Path.{_≡_}
 use Rattle.image.specs.Laid.{slotsLaid}
 use Rattle.image.proofs.lay_slots.Statement.{statement}

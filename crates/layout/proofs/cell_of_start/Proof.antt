@@ -1,12 +1,11 @@
 use borrow.Author.Needs.{needs}
 use Rattle.layout.proofs.Laws.{first-loop, start-loop}
-use Prim.Native.Nat.{_+_, _-_, _*_, _≤_}
+use Prim.Native.Nat.{_-_, _*_, _≤_}
 use mathlib.Core.Path.{_≡_}
 use native.Mathlib.Omega.{arith}
 use Rattle.layout.specs.Layout.{startAt}
-use Rattle.layout.specs.Home.{firstIn, isHome, isNamed}
+use Rattle.layout.specs.Home.{firstIn, isHome}
 use lib.Dec.{eqb}
-use Rattle.names.specs.Bytes.{sameBytes, UNDEF}
 use Rattle.layout.proofs.cell_of_start.Statement.{statement}
 use Rattle.layout.proofs.cell_of_start.Tie as tie
 

@@ -1,6 +1,6 @@
 use borrow.Author.Needs.{needs}
 use Rattle.layout.proofs.Laws.{record-loop}
-use Prim.Native.Nat.{_+_, _-_, _*_, _≤_}
+use Prim.Native.Nat.{_-_, _≤_}
 use mathlib.Core.Path.{_≡_}
 use Rattle.layout.specs.Layout.{recordOf}
 use Rattle.layout.proofs.table_records.Statement.{statement}

@@ -37,7 +37,7 @@ use Rattle.arch.specs.declared.VA.{VA}
 use Rattle.refusal.specs.declared.Number.{Number}
 use Rattle.module.specs.Section.{fileOffset, isBacked}
 use Rattle.module.proofs.Section as T
-use Rattle.module.proofs.Word.{Word, makes}
+use Rattle.module.proofs.Word.{makes}
 use Rattle.module.proofs.Words.{va-word, number-word, bool-word}
 use Rattle.module.proofs.file_offset as find
 use Rattle.module.proofs.file_offset.Symbol as find-def

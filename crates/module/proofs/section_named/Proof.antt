@@ -3,7 +3,8 @@ use contract.Running.{givenOf, tables, tablesOf}
 use denote.Triple.Spec.{tripleOf}
 use denote.Triple.Table.{entered, cited}
 use Rattle.refusal.specs.declared.Number.the-variants.{Value, Refusal}
-use Rattle.module.specs.Section.{NO-ENTRY, sectionHasName}
+use Rattle.refusal.specs.Refusal.{NO-ENTRY}
+use Rattle.module.specs.Section.{sectionHasName}
 use Rattle.module.proofs.Words.{number-word}
 use Rattle.module.proofs.ScanBytes.{Test, Answer, None, scan-meets}
 use Rattle.module.proofs.has_name.Symbol as test

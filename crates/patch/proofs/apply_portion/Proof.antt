@@ -1,6 +1,6 @@
 use borrow.Author.Needs.{needs}
 use Rattle.patch.proofs.Laws.{from-loop}
-use Prim.Native.Nat.{_+_, _-_, _≤_}
+use Prim.Native.Nat.{_-_, _≤_}
 use mathlib.Core.Path.{_≡_}
 use Rattle.patch.specs.Fixes.{fixedFrom}
 use Rattle.patch.proofs.apply_portion.Statement.{statement}

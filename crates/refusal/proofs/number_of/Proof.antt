@@ -1,6 +1,5 @@
 use borrow.Author.Needs.{needs}
 use Rattle.refusal.specs.Refusal.{answers}
-use mathlib.Core.Path.{refl}
 use Rattle.refusal.proofs.number_of.Statement.{statement}
 use Rattle.refusal.proofs.number_of.Tie as tie
 

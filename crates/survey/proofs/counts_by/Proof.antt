@@ -1,10 +1,9 @@
 use borrow.Author.Needs.{needs}
-use Rattle.survey.specs.Survey.{countsBy}
+use Rattle.survey.proofs.Laws.{counts-are}
 use Rattle.survey.proofs.counts_by.Statement.{statement}
 use Rattle.survey.proofs.counts_by.Tie as tie
 
 pub counts-by-spec : {M : Type 1} → statement M
-unfolding countsBy
 counts-by-spec =
     tie.close
     (tie.spec
@@ -16,4 +15,4 @@ counts-by-spec =
     (λ c. search needs)
     (λ c. search needs)
     (λ c. search needs)
-    (λ c. cc))
+    (λ c. search (needs, counts-are)))

@@ -1,6 +1,6 @@
 use borrow.Author.Needs.{needs}
 use Rattle.aspace.proofs.Laws.{text-loop}
-use Prim.Native.Nat.{_+_, _-_, _*_, _≤_}
+use Prim.Native.Nat.{_+_, _-_, _≤_}
 use mathlib.Core.Path.{_≡_}
 use lib.ListN.{length}
 use Rattle.aspace.specs.Ascii.{textIn, textLength}

@@ -1,6 +1,6 @@
 use borrow.Author.Needs.{needs}
 use Rattle.fixups.proofs.Rows.{rows-loop}
-use Prim.Native.Nat.{_+_, _-_, _*_, _≤_, _^_}
+use Prim.Native.Nat.{_-_, _*_, _≤_, _^_}
 use mathlib.Core.Path.{_≡_}
 use Rattle.object.specs.Section.{relocationCount}
 use Rattle.externs.specs.Bisect.{bisect}

@@ -1,6 +1,6 @@
 use borrow.Author.Needs.{needs}
 use Rattle.names.proofs.Laws.{decimal-loop}
-use Prim.Native.Nat.{_+_, _-_, _*_, _≤_, _^_, _<_}
+use Prim.Native.Nat.{_-_, _≤_}
 use mathlib.Core.Path.{_≡_}
 use Rattle.names.specs.Bytes.{decimalTo}
 use Rattle.names.proofs.Laws.{Small, small-fits}

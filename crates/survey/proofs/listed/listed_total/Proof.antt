@@ -1,8 +1,7 @@
 use borrow.Author.Needs.{needs}
-use Rattle.survey.proofs.Laws.{count-loop}
-use Prim.Native.Nat.{_+_, _-_, _*_, _≤_, _^_}
+use Prim.Native.Nat.{_-_, _≤_}
 use mathlib.Core.Path.{_≡_}
-use Rattle.util.specs.Prefix.{countTo}
+use Rattle.util.specs.Prefix.{countTo, count-loop}
 use Rattle.survey.specs.Listed.{listed}
 use Rattle.survey.proofs.listed.listed_total.Statement.{statement}
 use Rattle.survey.proofs.listed.listed_total.Tie as tie

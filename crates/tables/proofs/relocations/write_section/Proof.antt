@@ -1,7 +1,6 @@
 use borrow.Author.Needs.{needs}
 use Rattle.tables.proofs.Rows.{row-none, row-again, row-end, row-room, fixes-long, skips-long}
-use Prim.Native.Nat.{_+_, _-_, _*_, _≤_}
-use mathlib.Core.Path.{_≡_}
+use Prim.Native.Nat.{_-_, _≤_}
 use Rattle.externs.specs.Bisect.{bisect}
 use Rattle.fixups.specs.Outcome.{outcome}
 use Rattle.fixups.specs.Lists.{recordsTo}

@@ -1,7 +1,7 @@
 use borrow.Author.Needs.{needs}
 use Rattle.tables.proofs.Laws.{words-loop}
 use Rattle.le.specs.Le.{splice-long}
-use Prim.Native.Nat.{_+_, _-_, _*_, _≤_}
+use Prim.Native.Nat.{_-_, _≤_}
 use mathlib.Core.Path.{_≡_}
 use Rattle.le.specs.Le.{splice}
 use lib.ListN.{length, take}

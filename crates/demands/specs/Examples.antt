@@ -1,0 +1,147 @@
+-- The theorems of the demands with their hypotheses met: by the small object of 01's table, and where it costs nothing more by every file.
+use mathlib.Core.Path.{_≡_, refl, sym}
+use mathlib.Core.Bool.{true}
+use mathlib.Core.List.{List}
+use mathlib.Core.Logic.{inr}
+use Prim.Native.Nat.{ℕ, _*_, _<_}
+use native.Mathlib.Omega.{arith}
+use lib.Dec.{leb, eqb}
+use lib.ListN.{length, replicate, length-replicate}
+use borrow.Author.Tests.{le-leb}
+use Rattle.util.specs.Pick.{pick}
+use Rattle.arch.specs.Page.{PAGE-SIZE}
+use Rattle.arch.specs.Machine.{archOf}
+use Rattle.util.specs.Prefix.{listTo}
+use Rattle.le.specs.Le.{get, le, part}
+use Rattle.object.specs.Format.{headerOf}
+use Rattle.object.specs.Relocation.{type32, typeOf}
+use Rattle.object.specs.Section.{loadedBy, fileStart, fileEnd, extended, relocationRecords, relocationCount, relocationStart}
+use Rattle.object.specs.Symbol.{isFunction, codeOrData, kindBy, zeroPlace, placeBy, owed, primary}
+use Rattle.names.specs.Bytes.{run, sameBytes}
+use Rattle.names.specs.Name.{nameBytes, symbolRun}
+use Rattle.layout.specs.Home.{firstIn, isHome, homeCell}
+use Rattle.layout.specs.Layout.{startAt}
+use Rattle.tables.specs.Relocations.{FIXUP-BYTES, SKIP-BYTES}
+use Rattle.tables.specs.Externs.{EXTERN-BYTES}
+use Rattle.tables.specs.Symbols.{SYMBOL-BYTES}
+use Rattle.tables.specs.Sections.{SECTION-BYTES}
+use Rattle.externs.specs.Externs.{insertName, externRecords, externsTo}
+use Rattle.externs.specs.Puts.{putsBy, puts}
+use Rattle.externs.specs.Slot.{slotFrom}
+use Rattle.fixups.specs.Lists.{recordsTo, sectionsTo, fixAtRecord}
+use Rattle.fixups.specs.Outcome.{byKind, resolved, bySymbol, outcome}
+use Rattle.fixups.specs.Target.{slotTarget, dataTarget, targetBy}
+use Rattle.survey.specs.declared.answer.Counts.{Counts}
+use Rattle.survey.specs.declared.answer.Survey.{Survey}
+use Rattle.survey.specs.declared.answer.Survey.the-variants.{Accepted, Refused}
+use Rattle.survey.specs.Survey.{firstFailed, checks, counts, answerBy, surveyOf}
+use Rattle.survey.specs.Acceptance.{IsFixed, no-skips-all-fixed}
+use Rattle.image.specs.MarkWords.{markCount}
+use Rattle.load.specs.Load.{Storage, baseOk, layoutRoom, listsRoom, roomOk, stored, loadChecks, Loads}
+use Rattle.load.specs.Loading.{storage}
+use Rattle.demands.specs.Calls.{Call, afterCalls}
+use Rattle.demands.specs.Origin.{fixupAt, fixupValue}
+use Rattle.demands.specs.Demand2.{standardValue, From, standard-of-file}
+use Rattle.demands.specs.Demand3.{Demand3}
+use Rattle.demands.specs.Loaded.{Lends, load-lends, load-demand-3}
+use Rattle.demands.specs.Running.{FromOrigins, runs-are}
+use Rattle.demands.specs.Table.{smallObject, smallWith, smallCounts, table}
+use Rattle.demands.specs.Demand1.{FirstFailure, survey-refuses, Refuses, load-refuses, load-does}
+
+-- ---- load's contract is met for every file, base and storage, by this answer and these contents
+abbrev pub answerOf : List ℕ → ℕ → Storage → Survey
+answerOf f base s = answerBy (firstFailed (loadChecks f (headerOf f) base s)) (counts f (headerOf f))
+
+abbrev pub leftBy : List ℕ → ℕ → Storage → Storage
+leftBy f base s = pick (eqb (firstFailed (loadChecks f (headerOf f) base s)) 0) (stored f (headerOf f) base s) s
+
+pub loads-exists : (f : List ℕ) (base : ℕ) (s : Storage) → Loads f base s (leftBy f base s) (answerOf f base s)
+loads-exists f base s = record { says = refl; leaves = refl }
+
+-- ---- refusals
+-- the small object with its relocation 3 bytes before the mapped end: 11 is the first check that fails
+pub small-refused : FirstFailure (checks (smallWith 12285) (headerOf (smallWith 12285))) 11
+small-refused = survey-refuses (smallWith 12285) 10 (table .past-the-end)
+
+-- any file and storage at base 0x7F001000: 12, and the storage is as it was
+pub base-loads : (f : List ℕ) (s : Storage) → Loads f 0x7F001000 s s (Refused 12)
+unfolding answerBy pick
+base-loads f s = record { says = rw (table .base-refused f s); leaves = rw (table .base-refused f s) }
+
+pub base-refuses : (f : List ℕ) (s : Storage) → Refuses f 0x7F001000 s s 12
+base-refuses f s = load-refuses f 0x7F001000 s s 11 (base-loads f s)
+
+-- ---- storage that has just the room
+abbrev pub roomy : Counts → Storage
+roomy c =
+    storage (replicate (PAGE-SIZE * c .pages) 0) (replicate (8 * markCount (c .pages)) 0) (replicate (SECTION-BYTES * c .sections) 0) (replicate (SYMBOL-BYTES * c .symbols) 0)
+    (replicate (EXTERN-BYTES * c .externs) 0) (replicate (FIXUP-BYTES * c .fixups) 0) (replicate (SKIP-BYTES * c .skips) 0)
+
+room-in : (n : ℕ) → leb n (length {A = ℕ} (replicate n 0)) ≡ true
+room-in n = le-leb n (length {A = ℕ} (replicate n 0)) (rw (length-replicate {A = ℕ} n 0) (omega arith))
+
+pub roomy-fits : (c : Counts) → roomOk c (roomy c) ≡ true
+unfolding layoutRoom listsRoom
+roomy-fits c =
+    rw (
+      room-in (PAGE-SIZE * c .pages),
+      room-in (8 * markCount (c .pages)),
+      room-in (SECTION-BYTES * c .sections),
+      room-in (SYMBOL-BYTES * c .symbols),
+      room-in (EXTERN-BYTES * c .externs),
+      room-in (FIXUP-BYTES * c .fixups),
+      room-in (SKIP-BYTES * c .skips),
+    )
+
+-- ---- every file that survey accepts is loaded, at every allowed base, into every storage with room
+pub accepted-loads : (f : List ℕ) (base : ℕ) (s : Storage) (c : Counts) → surveyOf f ≡ Accepted c → baseOk base ≡ true → roomOk c s ≡ true
+    → Loads f base s (stored f (headerOf f) base s) (Accepted c)
+accepted-loads f base s c a b r =
+    let d = load-does f base s (leftBy f base s) c a b r (answerOf f base s) (loads-exists f base s) in
+    record { says = sym (d .says); leaves = sym (d .leaves) }
+
+-- so is the small object at 0x20000000
+abbrev pub smallStorage : Storage
+smallStorage = roomy smallCounts
+
+abbrev pub smallLeft : Storage
+smallLeft = stored smallObject (headerOf smallObject) 0x20000000 smallStorage
+
+small-base : baseOk 0x20000000 ≡ true
+unfolding baseOk
+small-base = refl
+
+pub small-loads : Loads smallObject 0x20000000 smallStorage smallLeft (Accepted smallCounts)
+small-loads = accepted-loads smallObject 0x20000000 smallStorage smallCounts (table .small) small-base (roomy-fits smallCounts)
+
+pub small-lends : Lends smallObject 0x20000000 smallLeft smallCounts
+small-lends = load-lends smallObject 0x20000000 smallStorage smallLeft smallCounts small-loads
+
+-- demand 3 of that load, and of the same at the highest base
+pub small-load-demand-3 : (calls : List Call) → Demand3 smallObject 0x20000000 0x7F000000 calls
+small-load-demand-3 = load-demand-3 smallObject 0x20000000 smallStorage smallLeft smallCounts small-loads 0x7F000000 (table .base-taken)
+
+-- ---- calls on what that load lends: every byte they leave is its origin's
+pub small-runs : (calls : List Call)
+    → FromOrigins smallObject 0x20000000 calls
+    (afterCalls 0x20000000 (part (smallLeft .marks) 0 (8 * markCount (smallCounts .pages))) (part (smallLeft .fixups) 0 (FIXUP-BYTES * smallCounts .fixups))
+    (part (smallLeft .image) 0 (PAGE-SIZE * smallCounts .pages)) calls)
+small-runs calls =
+    runs-are 0x20000000 _ _ calls _ _ refl .demand smallObject smallCounts (table .small) small-base
+    (small-lends .image) (small-lends .marks) (small-lends .fixes)
+
+-- ---- the small object's fixup, from relocation 0 of section 0: relative, by a symbol of value 0, over a field of zeros
+pub small-standard : (start : ℕ) → standardValue 0x20000000 (fixupAt smallObject 0) 0 0 start ≡ fixupValue smallObject 0x20000000 0
+unfolding pick listTo archOf get le part headerOf type32 typeOf loadedBy fileStart fileEnd
+    extended relocationRecords relocationCount relocationStart isFunction codeOrData kindBy zeroPlace placeBy owed primary
+    run sameBytes nameBytes symbolRun firstIn isHome homeCell startAt
+    insertName externRecords externsTo putsBy puts slotFrom recordsTo sectionsTo fixAtRecord byKind resolved bySymbol outcome
+    slotTarget dataTarget targetBy
+small-standard start =
+    let r : From smallObject (fixupAt smallObject 0) = record { section = 0; index = 0; inside = omega arith; counted = omega arith; is = refl } in
+    standard-of-file smallObject smallCounts (table .small) 0x20000000 small-base 0 (omega arith) r (inr refl) refl refl start
+
+-- ---- the small object has no skips, so every relocation of its loaded section is in the fix list
+pub small-all-fixed : (k : ℕ) → k < relocationCount smallObject (headerOf smallObject) 0 → IsFixed smallObject smallCounts (table .small) 0 k
+unfolding pick get le headerOf loadedBy
+small-all-fixed k l = no-skips-all-fixed smallObject smallCounts (table .small) refl 0 k (omega arith) l refl
