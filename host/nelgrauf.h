@@ -3,7 +3,8 @@
  * Every function answers 0, or the number of a refusal (enum nelgrauf_refusal), and then nothing lent has changed.
  * A lent buffer is a pointer and its length in bytes. The pointer is never null, not even for length 0, and no buffer that a call
  * may write overlaps another buffer of the same call. The functions keep no state, allocate nothing, and take no alignment for
- * granted. They are for x86-64 only, so that a record of words, low byte first, is a struct of 64-bit numbers. */
+ * granted; calls on different storage may run at the same time. They are for x86-64 only, so that a record of words, low byte first, is a
+ * struct of 64-bit numbers. The header is C11. */
 #ifndef NELGRAUF_H
 #define NELGRAUF_H
 
@@ -81,8 +82,8 @@ struct nelgrauf_section {
     uint64_t file_start;  /* file start, 0 if uninitialised */
     uint64_t file_end;    /* file end, 0 if uninitialised */
     uint64_t permissions; /* enum nelgrauf_permission, added */
-    uint64_t name_start;  /* start of the name in the file */
-    uint64_t name_length; /* length of the name */
+    uint64_t name_start;  /* start of the name in the file; UNDEF 0 */
+    uint64_t name_length; /* length of the name; UNDEF 0 */
     uint64_t number;      /* section number in the file, from 1; UNDEF 0 */
 };
 
@@ -183,12 +184,14 @@ uint64_t nelgrauf_load(const void *file, size_t file_bytes, uint64_t base,
                        void *skips, size_t skips_bytes, void *counts, size_t counts_bytes);
 
 /* Applies `number` fixups of the list from `position` on, or all that are left; struct nelgrauf_progress into `progress`.
- * Image, marks and fixups are the counted parts. Refusals: 13 if `progress` has under 16 bytes; 14, 13, 15. */
+ * Number 0 applies none and leaves the position where it is. Image, marks and fixups are the counted parts.
+ * Refusals, in this order: 13 if `progress` has under 16 bytes; 14; 13 if the image is not whole pages or has too few marks; 15. */
 uint64_t nelgrauf_patch(uint64_t base, void *image, size_t image_bytes, const void *marks, size_t marks_bytes,
                         const void *fixups, size_t fixups_bytes, uint64_t number, uint64_t position,
                         void *progress, size_t progress_bytes);
 
-/* Copies the image's bytes from `address` on, as many as `out` takes. Refusals: 13, 15. */
+/* Copies the image's bytes from `address` on, as many as `out` takes; with length 0 the page of `address` is looked at all the same.
+ * Refusals: 13, 15. */
 uint64_t nelgrauf_read(uint64_t base, const void *image, size_t image_bytes, const void *marks, size_t marks_bytes,
                        uint64_t address, void *out, size_t out_bytes);
 

@@ -1,6 +1,7 @@
-// Builds objects and surveys them, to measure what a survey costs. Standard input has nine numbers an object, each ended by one space or
-// newline: sections; symbol records; how many of these are defined; relocations; extern names; how many of these are long; a long name's
-// bytes; the class of the undefined symbols; how often the object is surveyed. Each survey writes a line of its counts.
+// Builds objects, at the limits and one above them, and surveys them; also to measure what a survey costs. Standard input has nine numbers
+// an object, each ended by one space or newline: sections; symbol records; how many of these are defined; relocations; extern names; how many
+// of these are long; a long name's bytes; the class of the undefined symbols; how often the object is surveyed. Each survey writes a line of
+// its counts.
 mod input;
 mod line;
 mod plan;

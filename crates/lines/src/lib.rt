@@ -10,9 +10,13 @@ pub use say::text;
 use survey::Counts;
 pub use table::Row;
 pub use table::rows;
+ghost use mathlib.Core.Path.{_≡_};
+ghost use Prim.Native.Nat.{min};
 
 // A count that a table here has room for.
-pub fn few(n: u64) -> u16 {
+pub fn few(n: u64) -> u16
+    ensures { λ r. ⌜ r ≡ min n 65535 ⌝ }
+{
     if n < 65535 { n as u16 } else { 65535 }
 }
 

@@ -1,8 +1,13 @@
 // Document 01's program on one object: loaded at 0x20000000, patched fully, and listed on standard output.
+mod answer;
+
+pub use answer::Verdict;
 use arch::VA;
 use patch::Patch;
 use survey::Counts;
 use survey::Survey;
+ghost use mathlib.Core.Path.{_≡_};
+ghost use Rattle.program.specs.Program.{fits, verdictBy, verdictOf};
 
 // The most that it takes: file bytes, pages, file sections, symbol records, relocations.
 const MAX_BYTES: usize = 16384;
@@ -18,41 +23,68 @@ const MAX_RELOCATIONS: u64 = 128;
 const BASE: u64 = 0x20000000;
 
 // Size comes before refusal, the other limits after it.
-pub fn top_up(f: &[u8]) {
-    if f.len() > MAX_BYTES {
-        too_large();
+pub fn verdict(f: &[u8]) -> Verdict
+    ensures { λ r. ⌜ r ≡ verdictOf (now (f .entry)) ⌝ }
+{
+    let short = f.len() <= MAX_BYTES;
+    if short {
+        verdict_by(survey::survey(f))
     } else {
-        surveyed(f, survey::survey(f));
+        Verdict::TooLarge
     }
 }
 
-pub fn too_large() {
+fn verdict_by(s: Survey) -> Verdict
+    ensures { λ r. ⌜ r ≡ verdictBy s ⌝ }
+{
+    match s {
+        Survey::Refused(n) => Verdict::Refused(n),
+        Survey::Accepted(c) => {
+            if fits(c) {
+                Verdict::Lines(c)
+            } else {
+                Verdict::TooLarge
+            }
+        }
+    }
+}
+
+fn fits(c: Counts) -> bool
+    ensures { λ r. ⌜ r ≡ fits c ⌝ }
+{
+    let image = c.pages <= MAX_PAGES;
+    if image {
+        let sections = c.file_sections <= MAX_SECTIONS;
+        if sections {
+            let symbols = c.symbol_records <= MAX_SYMBOLS;
+            if symbols {
+                c.relocations <= MAX_RELOCATIONS
+            } else {
+                false
+            }
+        } else {
+            false
+        }
+    } else {
+        false
+    }
+}
+
+pub fn top_up(f: &[u8]) {
+    match verdict(f) {
+        Verdict::TooLarge => too_large(),
+        Verdict::Refused(n) => refused(n),
+        Verdict::Lines(_) => lend(f),
+    }
+}
+
+fn too_large() {
     lines::line(b"too large");
 }
 
 fn refused(n: u64) {
     lines::part(b"refused ", n);
     lines::line(b"");
-}
-
-fn surveyed(f: &[u8], s: Survey) {
-    match s {
-        Survey::Refused(n) => refused(n),
-        Survey::Accepted(c) => {
-            if fits(c) {
-                lend(f);
-            } else {
-                too_large();
-            }
-        }
-    }
-}
-
-fn fits(c: Counts) -> bool {
-    c.pages <= MAX_PAGES
-        && c.file_sections <= MAX_SECTIONS
-        && c.symbol_records <= MAX_SYMBOLS
-        && c.relocations <= MAX_RELOCATIONS
 }
 
 // Room for the most: 8 pages, 17 records of the section table, 128 of each list.

@@ -32,7 +32,7 @@ fn of_the_file(c: Counts) {
     part(b" relocations ", c.relocations);
 }
 
-fn part(word: &[u8], n: u64) {
+pub(crate) fn part(word: &[u8], n: u64) {
     io::write_all(1, word);
     io::print_decimal(1, n);
 }

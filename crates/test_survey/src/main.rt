@@ -1,4 +1,5 @@
-// Surveys the objects of standard input, each a 32-bit little-endian length and then its bytes, and writes a line a case.
+// Surveys the objects of standard input, each a 32-bit little-endian length and then its bytes, and writes a line a case; then the headers of `empty`.
+mod empty;
 mod input;
 mod line;
 
@@ -6,6 +7,7 @@ mod line;
 fn main() {
     let mut buffer = [0u8; 4194305];
     cases(&mut buffer);
+    empty::all();
 }
 
 // Where the input ends is not known, so the loop has a number of cases that no run uses up.

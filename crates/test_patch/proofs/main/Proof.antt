@@ -10,4 +10,5 @@ main-spec =
     (λ c. zeros-long 32768)
     (λ c. search needs)
     (λ c. search needs)
+    (λ c. search needs)
     (λ c. search needs))

@@ -9,4 +9,5 @@ main-spec =
     (tie.spec
     (λ c. zeros-long 4194305)
     (λ c. search needs)
+    (λ c. search needs)
     (λ c. search needs))

@@ -15,7 +15,7 @@ use base.Fml.{Lft, GName, Share, Fml, ftrue, fsep, flft, flent, fat}
 use prog.Memory.{Memory}
 use prog.Routine.{Routine}
 use prog.Wp.{Heap, Calls, Loops, WpFn, Tables}
-use ghost.Atoms.{Atoms, sem}
+use ghost.Atoms.{Atoms}
 use contract.Monad.{Fun, fact}
 use contract.Running.{givenOf, tables, tablesOf}
 use types.Kit.{Given, ‵, raw, _⊛_, ⋆, later, some, _$_, _∵_, !, qed, by, move, keep, drop, split, join, pick, rewrite, use1, use3, fsplit, fjoin, fpick, fpack, feqL, suffices, frame, await, done}
@@ -41,7 +41,7 @@ use denote.Steps.{only, heard, peeks, nothing}
 use denote.Struct.Laws as LL
 use denote.Triple.Statement.{Contract, Triple}
 use denote.Triple.Call.{calls-at}
-use denote.Triple.Clauses.{Lasts, ensured, lasts}
+use denote.Triple.Clauses.{Lasts, lasts}
 use denote.Triple.Entry.{Vals, onEntry}
 use denote.Triple.Spec.{Meets, tripleOf}
 use denote.Triple.Table.{entered, cited}
