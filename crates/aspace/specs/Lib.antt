@@ -1,3 +1,2 @@
 pub mod Space
-pub mod Ascii
 pub mod SpaceLaws

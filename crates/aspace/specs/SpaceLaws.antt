@@ -1,64 +1,23 @@
 -- What holds of the spaces' definitions, as later layers ask it.
-use mathlib.Core.Path.{_≡_}
-use mathlib.Core.Bool.{true}
+use mathlib.Core.Path.{_≡_, refl, _∙_}
+use mathlib.Core.Bool.{Bool, true, false}
 use mathlib.Core.List.{List}
-use mathlib.Core.Logic.{_⊎_, ⊎-elim}
-use Prim.Native.Nat.{ℕ, _+_, _-_, _^_, _≤_, _<_, max}
+use mathlib.Core.Logic.{⊎-elim}
+use Prim.Native.Nat.{ℕ, zero, suc, _+_, _-_, _^_, _≤_, _<_, max}
 use native.Mathlib.Omega.{arith}
-use lib.ListN.{length, getD}
+use lib.ListN.{length}
 use lib.Dec.{leb}
 use borrow.Author.Tests.{le-leb}
-use Rattle.util.specs.Pick.{pick, passed, passed-on}
-use Rattle.le.specs.Le.{le, part, splice, length-splice, splice-below, splice-above, part-splice, get-splice}
-use Rattle.refusal.specs.declared.Number.the-variants.{Value}
-use Rattle.refusal.specs.Refusal.{numberOf}
-use Rattle.pagemap.specs.Pages.{storageOk, spanMapped, readCode}
+use Rattle.util.specs.Pick.{pick, yes-no}
+use Rattle.refusal.specs.declared.Answer.{Answer}
+use Rattle.refusal.specs.Refusal.{unlessRefused, Leaves}
+use Rattle.pagemap.specs.Pages.{spanMapped, readCode}
 use Rattle.pagemap.specs.PageLaws.{span-in}
-use Rattle.aspace.specs.Space.{readNumber, writeCode, reached, spanAt, readCodeAt, readNumberAt, writeCodeAt}
-
--- ---- a write that is not refused
-module _ (size : ℕ) (marks : List ℕ) (o n : ℕ) (e : writeCode size marks o n ≡ 0) where
-  write-storage : storageOk size (length marks) ≡ true
-  unfolding writeCode
-  write-storage = passed (storageOk size (length marks)) (pick (leb n 4096) (pick (spanMapped size marks o n) 0 15) 18) 13 e (λ z. omega arith)
-
-  -- has all its pages mapped
-  pub write-span : spanMapped size marks o n ≡ true
-  unfolding writeCode
-  write-span =
-      passed (spanMapped size marks o n) 0 15
-      (passed-on (leb n 4096) (pick (spanMapped size marks o n) 0 15) 18
-      (passed-on (storageOk size (length marks)) (pick (leb n 4096) (pick (spanMapped size marks o n) 0 15) 18) 13 e (λ z. omega arith))
-      (λ z. omega arith))
-      (λ z. omega arith)
-
-  -- lies within the image
-  pub write-in : o + n ≤ size
-  write-in = let h = span-in size marks o n write-span in omega arith
-
-  -- can be read back
-  pub write-read : readCode size marks o n ≡ 0
-  unfolding readCode pick
-  write-read = rw (write-storage, write-span)
-
--- its bytes then stand there
-pub written-part : (image marks v : List ℕ) (o : ℕ) → writeCode (length image) marks o (length v) ≡ 0 → part (splice image o v) o (length v) ≡ v
-written-part image marks v o e = part-splice image o v (write-in (length image) marks o (length v) e)
-
--- and every byte outside them is as it was
-pub written-outside : (image v : List ℕ) (o k : ℕ) → (k < o) ⊎ (o + length v ≤ k) → getD (splice image o v) k 0 ≡ getD image k 0
-written-outside image v o k h = ⊎-elim (λ p. splice-below image o v k p) (λ p. splice-above image o v k p) h
-
--- a number of n bytes that was written is read back
-pub written-number : (n v : ℕ) (image marks : List ℕ) (o : ℕ) → writeCode (length image) marks o n ≡ 0 → v < 256 ^ n
-    → readNumber n (splice image o (le n v)) marks o ≡ Value v
-unfolding readNumber numberOf
-written-number n v image marks o e h =
-    rw (length-splice, write-read (length image) marks o n e, get-splice n v image o (write-in (length image) marks o n e) h)
+use Rattle.aspace.specs.Space.{readNumber, reached, offsetAt, spanAt, readCodeAt, readNumberAt}
 
 -- ---- by address is by offset, where the bytes do not pass 64 bits
 module _ (marks : List ℕ) (base o n : ℕ) (h : base + o + max n 1 ≤ 2 ^ 64) where
-  span-by-address : (size : ℕ) → spanAt size marks base (base + o) n ≡ spanMapped size marks o n
+  pub span-by-address : (size : ℕ) → spanAt size marks base (base + o) n ≡ spanMapped size marks o n
   unfolding spanAt reached
   span-by-address size =
       let above : leb base (base + o) ≡ true = le-leb base (base + o) (omega arith) in
@@ -71,12 +30,37 @@ module _ (marks : List ℕ) (base o n : ℕ) (h : base + o + max n 1 ≤ 2 ^ 64)
   unfolding readCodeAt readCode
   read-by-address size = rw (span-by-address size)
 
-  -- of a write
-  pub write-by-address : (size : ℕ) → writeCodeAt size marks base (base + o) n ≡ writeCode size marks o n
-  unfolding writeCodeAt writeCode
-  write-by-address size = rw (span-by-address size)
-
   -- the number read
   pub number-by-address : (image : List ℕ) → readNumberAt n image marks base (base + o) ≡ readNumber n image marks o
   unfolding readNumberAt readNumber
   number-by-address image = let back : base + o - base ≡ o = omega arith in rw (read-by-address (length image), back)
+
+-- ---- and at `offsetAt`, where they do too
+-- no image reaches the last offset of all
+pub last-unmapped : (size : ℕ) (marks : List ℕ) (o n : ℕ) → size < 2 ^ 64 → 2 ^ 64 - 1 ≤ o → spanMapped size marks o n ≡ false
+last-unmapped size marks o n h k =
+    ⊎-elim (λ e. absurd (let i = span-in size marks o n e in omega arith)) (λ e. e) (yes-no (spanMapped size marks o n))
+
+module _ (size : ℕ) (marks : List ℕ) (base a n o : ℕ) (fits : size < 2 ^ 64) (is : o ≡ offsetAt base a n) where
+  span-by : (t : Bool) → reached base a n ≡ t → spanMapped size marks o n ≡ spanAt size marks base a n
+  unfolding spanAt offsetAt pick
+  span-by true e = rw (is, e)
+  span-by false e = rw (is, e) (last-unmapped size marks (2 ^ 64 - 1) n fits (omega arith))
+
+  pub offset-span : spanMapped size marks o n ≡ spanAt size marks base a n
+  offset-span = span-by (reached base a n) refl
+
+  there-by : (t : Bool) → reached base a n ≡ t → spanMapped size marks o n ≡ true → o ≡ a - base
+  unfolding offsetAt pick
+  there-by true e m = rw (is, e)
+  there-by false e m = let i = span-in size marks o n m in let l : o ≡ 2 ^ 64 - 1 = rw (is, e) in absurd (omega arith)
+
+  -- bytes that are mapped there were reached
+  pub offset-there : spanMapped size marks o n ≡ true → o ≡ a - base
+  offset-there = there-by (reached base a n) refl
+
+-- ---- a refusal leaves the same, whatever would have been written
+pub leaves-same : {A : Type 0} (code : ℕ) (old new other x : A) (r : Answer) → (code ≡ 0 → new ≡ other) → Leaves code old new x r → Leaves code old other x r
+unfolding unlessRefused
+leaves-same zero old new other x r e l = record { says = l .says; leaves = l .leaves ∙ e refl }
+leaves-same (suc k) old new other x r e l = record { says = l .says; leaves = l .leaves }

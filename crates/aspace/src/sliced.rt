@@ -1,73 +1,65 @@
 // Reading relative to the start of a slice of the relative space. A slice of the absolute space starts at an address:
 // there `RVA::address` from that start gives the address to read at.
-use crate::Ascii;
-use crate::Width;
 use crate::relative;
-use crate::unmapped;
-use crate::width_of;
 use arch::Arch;
 use arch::RVA;
 use refusal::Answer;
 use refusal::Number;
 ghost use mathlib.Core.Path.{_≡_};
-ghost use Prim.Native.Nat.{_+_};
+ghost use Prim.Native.Nat.{_+_, _-_, _^_, min};
 ghost use lib.ListN.{length};
 ghost use Rattle.arch.specs.Machine.{pointerSize};
 ghost use Rattle.le.specs.Le.{part, splice};
 ghost use Rattle.refusal.specs.Refusal.{Leaves};
 ghost use Rattle.pagemap.specs.Pages.{readCode};
-ghost use Rattle.aspace.specs.Space.{bytesOf, readNumber, bytesCode};
-ghost use Rattle.aspace.specs.Ascii.{asciiFrom};
+ghost use Rattle.aspace.specs.Space.{readNumber, bytesCode};
+
+// The offset that far past the start; a sum past 64 bits is the last offset of all, which no image has.
+fn further(start: RVA, offset: RVA) -> RVA
+    ensures { λ r. ⌜ r .0 ≡ min (start .0 + offset .0) (2 ^ 64 - 1) ⌝ }
+{
+    if offset.0 <= u64::MAX - start.0 {
+        RVA(start.0 + offset.0)
+    } else {
+        RVA(u64::MAX)
+    }
+}
 
 pub fn read_into(image: &[u8], marks: &[u8], start: RVA, offset: RVA, buf: &mut [u8]) -> Answer
     ensures { λ r. ⌜ Leaves (readCode (length (now (image .entry))) (now (marks .entry)) (start .0 + offset .0) (length (now (buf .entry))))
         (now (buf .entry)) (part (now (image .entry)) (start .0 + offset .0) (length (now (buf .entry)))) (now (buf .exit)) r ⌝ }
 {
-    if offset.0 <= u64::MAX - start.0 {
-        relative::read_into(image, marks, RVA(start.0 + offset.0), buf)
-    } else {
-        Answer::Refused(unmapped(image.len() as u64, marks.len() as u64))
-    }
-}
-
-fn read_number(image: &[u8], marks: &[u8], start: RVA, offset: RVA, w: Width) -> Number
-    ensures { λ r. ⌜ r ≡ readNumber (bytesOf w) (now (image .entry)) (now (marks .entry)) (start .0 + offset .0) ⌝ }
-{
-    if offset.0 <= u64::MAX - start.0 {
-        relative::read_number(image, marks, RVA(start.0 + offset.0), w)
-    } else {
-        Number::Refusal(unmapped(image.len() as u64, marks.len() as u64))
-    }
+    relative::read_into(image, marks, further(start, offset), buf)
 }
 
 pub fn read_u8(image: &[u8], marks: &[u8], start: RVA, offset: RVA) -> Number
     ensures { λ r. ⌜ r ≡ readNumber 1 (now (image .entry)) (now (marks .entry)) (start .0 + offset .0) ⌝ }
 {
-    read_number(image, marks, start, offset, Width::W8)
+    relative::read_u8(image, marks, further(start, offset))
 }
 
 pub fn read_u16(image: &[u8], marks: &[u8], start: RVA, offset: RVA) -> Number
     ensures { λ r. ⌜ r ≡ readNumber 2 (now (image .entry)) (now (marks .entry)) (start .0 + offset .0) ⌝ }
 {
-    read_number(image, marks, start, offset, Width::W16)
+    relative::read_u16(image, marks, further(start, offset))
 }
 
 pub fn read_u32(image: &[u8], marks: &[u8], start: RVA, offset: RVA) -> Number
     ensures { λ r. ⌜ r ≡ readNumber 4 (now (image .entry)) (now (marks .entry)) (start .0 + offset .0) ⌝ }
 {
-    read_number(image, marks, start, offset, Width::W32)
+    relative::read_u32(image, marks, further(start, offset))
 }
 
 pub fn read_u64(image: &[u8], marks: &[u8], start: RVA, offset: RVA) -> Number
     ensures { λ r. ⌜ r ≡ readNumber 8 (now (image .entry)) (now (marks .entry)) (start .0 + offset .0) ⌝ }
 {
-    read_number(image, marks, start, offset, Width::W64)
+    relative::read_u64(image, marks, further(start, offset))
 }
 
 pub fn read_pointer(image: &[u8], marks: &[u8], arch: Arch, start: RVA, offset: RVA) -> Number
     ensures { λ r. ⌜ r ≡ readNumber (pointerSize arch) (now (image .entry)) (now (marks .entry)) (start .0 + offset .0) ⌝ }
 {
-    read_number(image, marks, start, offset, width_of(arch))
+    relative::read_pointer(image, marks, arch, further(start, offset))
 }
 
 pub fn read_bytes(
@@ -81,23 +73,5 @@ pub fn read_bytes(
     ensures { λ r. ⌜ Leaves (bytesCode (length (now (image .entry))) (now (marks .entry)) (start .0 + offset .0) n (length (now (out .entry))))
         (now (out .entry)) (splice (now (out .entry)) 0 (part (now (image .entry)) (start .0 + offset .0) n)) (now (out .exit)) r ⌝ }
 {
-    if offset.0 <= u64::MAX - start.0 {
-        return relative::read_bytes(image, marks, RVA(start.0 + offset.0), n, out);
-    }
-    let fits = n <= out.len();
-    if fits {
-        Answer::Refused(unmapped(image.len() as u64, marks.len() as u64))
-    } else {
-        Answer::Refused(refusal::STORAGE)
-    }
-}
-
-pub fn read_ascii(image: &[u8], marks: &[u8], start: RVA, offset: RVA, minimum_length: u64) -> Ascii
-    ensures { λ r. ⌜ r ≡ asciiFrom (now (image .entry)) (now (marks .entry)) (start .0) (offset .0) «minimum_length» ⌝ }
-{
-    if offset.0 <= u64::MAX - start.0 {
-        relative::read_ascii(image, marks, RVA(start.0 + offset.0), minimum_length)
-    } else {
-        Ascii::Refused(unmapped(image.len() as u64, marks.len() as u64))
-    }
+    relative::read_bytes(image, marks, further(start, offset), n, out)
 }

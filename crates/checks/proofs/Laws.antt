@@ -2,8 +2,7 @@
 use mathlib.Core.Path.{_≡_, refl}
 use mathlib.Core.Bool.{Bool, true, false, not, and-true, and-false}
 use mathlib.Core.List.{List}
-use Prim.Native.Nat.{ℕ, _+_, _-_, _*_, _≤_, _<_}
-use native.Mathlib.Omega.{arith}
+use Prim.Native.Nat.{ℕ, _+_, _-_, _*_, _%_, _≤_, _<_}
 use native.Mathlib.Numerals.{add-one}
 use lib.Dec.{leb, eqb}
 use lib.ListN.{length}
@@ -15,13 +14,15 @@ use Rattle.arch.specs.declared.Machine.the-variants.{Known, Unknown}
 use Rattle.arch.specs.declared.Arch.{Arch}
 use Rattle.arch.specs.Machine.{archOf}
 use Rattle.object.specs.declared.Header.{Header}
-use Rattle.object.specs.declared.Place.{Place}
-use Rattle.object.specs.declared.Place.the-variants.{In}
+use Rattle.kinds.specs.declared.Place.{Place}
+use Rattle.kinds.specs.declared.Place.the-variants.{In}
 use Rattle.object.specs.Format.{sectionAt, stringTable, stringLength, virtualAddress, rawPointer, rawSize, relocationPointer, auxiliaries}
 use Rattle.object.specs.Section.{loaded, uninitialized, extended, relocationRecords}
 use Rattle.object.specs.Symbol.{owed}
 use Rattle.layout.specs.Layout.{mappedPages}
-use Rattle.checks.specs.Checks.{sizeOk, machineOk, sectionTableOk, stringsOk, symbolTableOk, bytesOk, dataOk, relocationsOk, sectionsOk, sectionOk, relocationTotal, symbolFine, fineAt, allSymbols, nameOk, namesOk, sectionNameOk, placeWithin, owedNext, pagesOk}
+use Rattle.checks.specs.Checks.{baseOk, sizeOk, machineOk, sectionTableOk, stringsOk, symbolTableOk, bytesOk, dataOk, relocationsOk, sectionsOk, sectionOk, relocationTotal, symbolFine, fineAt, allSymbols, nameOk, namesOk, sectionNameOk, placeWithin, owedNext, pagesOk}
+use Rattle.names.specs.Name.{isGood}
+use Rattle.names.specs.declared.Name.{Name}
 
 module _ (f : List ℕ) where
   pub size-whole : leb 20 (length f) ≡ true → leb (length f) 4194304 ≡ sizeOk f
@@ -198,3 +199,22 @@ pub ruleset symbols-loop = (symbols-begin, symbols-out, symbols-again, symbols-e
 
 pub place-in : (n k : ℕ) (p : Place) → p ≡ In k → leb k n ≡ placeWithin n p
 place-in n k p e = rw e
+
+-- ---- a name or a place that is known by an equation
+pub good-by : (x y : Name) {r : Bool} → r ≡ isGood x → x ≡ y → r ≡ isGood y
+good-by x y p q = rw (← q) p
+
+pub within-by : (n : ℕ) (p q : Place) {r : Bool} → r ≡ placeWithin n p → p ≡ q → r ≡ placeWithin n q
+within-by n p q e is = rw (← is) e
+
+-- ---- 12
+module _ (base : ℕ) where
+  pub base-on : eqb (base % 4096) 0 ≡ true → leb base 2130706432 ≡ baseOk base
+  unfolding baseOk
+  base-on e = rw e
+
+  pub base-off : eqb (base % 4096) 0 ≡ false → false ≡ baseOk base
+  unfolding baseOk
+  base-off e = rw e
+
+pub ruleset bases = (base-on, base-off)

@@ -1,8 +1,8 @@
--- The checks of the file's records, refusals 1 to 8: each says of the whole file that the refusal of its number is not given
--- (01, "Survey"). A check is asked only where those before it passed; past the file a record reads as zeros.
+-- The check of a base, refusal 12, and of the file's records, refusals 1 to 8: each says that the refusal of its number is not given, of the whole file
+-- (01, "Survey" and "Load"). A check is asked only where those before it passed; past the file a record reads as zeros.
 use mathlib.Core.Bool.{Bool, true, false, _&&_, _||_, not}
 use mathlib.Core.List.{List}
-use Prim.Native.Nat.{ℕ, _+_, _-_, _*_}
+use Prim.Native.Nat.{ℕ, _+_, _-_, _*_, _%_}
 use lib.ListN.{length}
 use lib.Dec.{leb, eqb}
 use Rattle.util.specs.Pick.{pick}
@@ -10,19 +10,24 @@ use Rattle.util.specs.Prefix.{allTo, sumTo}
 use Rattle.arch.specs.declared.Machine.{Machine}
 use Rattle.arch.specs.declared.Machine.the-variants.{Known, Unknown}
 use Rattle.arch.specs.Machine.{archOf}
+use Rattle.arch.specs.Page.{PAGE-SIZE}
 use Rattle.object.specs.declared.Header.{Header}
-use Rattle.object.specs.declared.Place.{Place}
-use Rattle.object.specs.declared.Place.the-variants.{In, Undefined, Common, Absolute, Nowhere, Other}
+use Rattle.kinds.specs.declared.Place.{Place}
+use Rattle.kinds.specs.declared.Place.the-variants.{In, Undefined, Common, Absolute, Nowhere, Other}
 use Rattle.object.specs.Format.{HEADER-SIZE, RELOCATION-SIZE, sectionAt, stringTable, stringLength, virtualAddress, rawPointer, rawSize, relocationPointer, auxiliaries}
 use Rattle.object.specs.Section.{loaded, uninitialized, extended, relocationRecords, relocationCount}
 use Rattle.object.specs.Symbol.{owed, symbolPlace}
 use Rattle.names.specs.Name.{sectionName, symbolName, isGood}
 use Rattle.layout.specs.Layout.{mappedPages}
-use Rattle.checks.specs.Limits.{MAX-FILE, MAX-SECTIONS, MAX-SYMBOLS, MAX-RELOCATIONS, MAX-PAGES}
+use Rattle.checks.specs.Limits.{MAX-FILE, MAX-SECTIONS, MAX-SYMBOLS, MAX-RELOCATIONS, MAX-PAGES, MAX-BASE}
 
 -- n bytes from start lie in the file; at length 0 the start must too
 abbrev pub inFile : List ℕ → ℕ → ℕ → Bool
 inFile f start n = leb (start + n) (length f)
+
+-- 12: the base is a page multiple and not above the highest
+unfoldable pub baseOk : ℕ → Bool
+baseOk base = eqb (base % PAGE-SIZE) 0 && leb base MAX-BASE
 
 -- 1: the file has a header, and is not too large
 unfoldable pub sizeOk : List ℕ → Bool

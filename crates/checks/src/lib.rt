@@ -1,11 +1,13 @@
-// The checks of the file's records: refusals 1 to 8, each over the whole file. A check is called only where those before it passed.
+// The check of a base, refusal 12, and of the file's records: refusals 1 to 8, each over the whole file. A check is called only where those before it passed.
 use arch::Arch;
 use arch::Machine;
+use arch::PAGE_SIZE;
+use kinds::Place;
 use object::Header;
-use object::Place;
 ghost use mathlib.Core.Path.{_≡_};
 ghost use Rattle.util.specs.Prefix.{allTo};
 ghost use Rattle.checks.specs.Checks.{
+  baseOk,
   sizeOk,
   machineOk,
   sectionTableOk,
@@ -43,6 +45,14 @@ pub const MAX_PAGES: u64 = 4096;
 pub const MAX_EXTERNS: usize = 1024;
 
 pub const MAX_BASE: u64 = 0x7F000000;
+
+// 12: the base is a page multiple and not too high.
+pub fn base_ok(base: u64) -> bool
+    ensures { λ r. ⌜ r ≡ baseOk base ⌝ }
+{
+    let on_page = base % PAGE_SIZE == 0;
+    if on_page { base <= MAX_BASE } else { false }
+}
 
 // 1: the file has a header, and is not too large.
 pub fn size_ok(f: &[u8]) -> bool

@@ -10,7 +10,7 @@ use Rattle.externs.specs.Externs.{externs}
 use Rattle.survey.specs.Survey.{outcomes}
 use Rattle.tables.specs.Sections.{sectionTable}
 use Rattle.tables.specs.Externs.{externTable}
-use Rattle.tables.specs.Relocations.{fixTable}
+use Rattle.lists.specs.Relocations.{fixTable}
 use Rattle.image.specs.Laid.{laidImage}
 use Rattle.image.specs.MarkWords.{markCount, markBytes}
 

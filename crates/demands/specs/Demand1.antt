@@ -17,7 +17,8 @@ use Rattle.survey.specs.declared.answer.Survey.{Survey}
 use Rattle.survey.specs.declared.answer.Survey.the-variants.{Accepted, Refused}
 use Rattle.survey.specs.Survey.{Check, check, firstFailed, externChecks, targetChecks, tally, checks, counts, answerBy, surveyOf}
 use Rattle.survey.specs.SurveyLaws.{check-holds, checks-hold, ordered, ordered-rest, records-rest, tells-accepted, tells-refused}
-use Rattle.load.specs.Load.{Storage, baseOk, roomOk, stored, loadChecks, Loads}
+use Rattle.checks.specs.Checks.{baseOk}
+use Rattle.load.specs.Load.{Storage, roomOk, stored, loadChecks, Loads}
 use Rattle.load.specs.LoadLaws.{load-refused}
 
 -- ---- the first of a list of checks that fails, and its number

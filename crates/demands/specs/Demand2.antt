@@ -15,8 +15,8 @@ use Rattle.le.specs.Le.{get, part}
 use Rattle.object.specs.Format.{headerOf, symbolValue}
 use Rattle.object.specs.Section.{fileStart, fileEnd, relocationCount}
 use Rattle.object.specs.Relocation.{relocationAddress, relocationSymbol}
-use Rattle.object.specs.declared.RelocationKind.{RelocationKind}
-use Rattle.object.specs.declared.RelocationKind.the-variants.{Absolute, ImageOffset, SectionOffset, Relative, NotCarried, Unknown}
+use Rattle.kinds.specs.declared.RelocationKind.{RelocationKind}
+use Rattle.kinds.specs.declared.RelocationKind.the-variants.{Absolute, ImageOffset, SectionOffset, Relative, NotCarried, Unknown}
 use Rattle.fixups.specs.declared.Fix.{Fix}
 use Rattle.fixups.specs.Value.{valueOf}
 use Rattle.fixups.specs.declared.Outcome.the-variants.{Fixup}
@@ -27,7 +27,7 @@ use Rattle.survey.specs.declared.answer.Survey.the-variants.{Accepted}
 use Rattle.survey.specs.Survey.{outcomes, surveyOf}
 use Rattle.survey.specs.Fixups.{fixups-exact}
 use Rattle.checks.specs.Limits.{MAX-BASE}
-use Rattle.load.specs.Load.{baseOk}
+use Rattle.checks.specs.Checks.{baseOk}
 use Rattle.demands.specs.Origin.{fixupsOf, fixupAt, noFixup, fixupValue}
 
 -- what the standard takes away: the place's address, the image's start, or the address where the target's section starts

@@ -29,7 +29,7 @@ use Rattle.patch.specs.declared.answer.Patch.{Patch}
 use Rattle.patch.specs.Fixes.{fixCount, placeAt, bitsAt, valueAt, widthOf}
 use Rattle.patch.specs.Patch.{patchCode}
 use Rattle.checks.specs.Limits.{MAX-PAGES, MAX-BASE}
-use Rattle.load.specs.Load.{baseOk}
+use Rattle.checks.specs.Checks.{baseOk}
 use Rattle.demands.specs.Calls.{Call, applied, afterCalls, answersTo}
 use Rattle.demands.specs.Origin.{fixupsOf, fixupAt, noFixup, slotsOf, fixupPlace, fixupWidth, fixupValue, undefAddress, slotValue, inSection, latest, originBy, origin, byteOf}
 use Rattle.demands.specs.Counted.{pagesOf, imageOf, marksOf, fixesOf}

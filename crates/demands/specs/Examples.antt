@@ -14,30 +14,33 @@ use Rattle.arch.specs.Machine.{archOf}
 use Rattle.util.specs.Prefix.{listTo}
 use Rattle.le.specs.Le.{get, le, part}
 use Rattle.object.specs.Format.{headerOf}
-use Rattle.object.specs.Relocation.{type32, typeOf}
-use Rattle.object.specs.Section.{loadedBy, fileStart, fileEnd, extended, relocationRecords, relocationCount, relocationStart}
-use Rattle.object.specs.Symbol.{isFunction, codeOrData, kindBy, zeroPlace, placeBy, owed, primary}
+use Rattle.kinds.specs.Types.{type32, typeOf}
+use Rattle.object.specs.Section.{fileStart, fileEnd, extended, relocationRecords, relocationCount, relocationStart}
+use Rattle.kinds.specs.Flags.{loadedBy}
+use Rattle.object.specs.Symbol.{owed, primary}
+use Rattle.kinds.specs.Symbol.{isFunction, codeOrData, kindBy, zeroPlace, placeBy}
 use Rattle.names.specs.Bytes.{run, sameBytes}
 use Rattle.names.specs.Name.{nameBytes, symbolRun}
 use Rattle.layout.specs.Home.{firstIn, isHome, homeCell}
 use Rattle.layout.specs.Layout.{startAt}
-use Rattle.tables.specs.Relocations.{FIXUP-BYTES, SKIP-BYTES}
+use Rattle.lists.specs.Relocations.{FIXUP-BYTES, SKIP-BYTES}
 use Rattle.tables.specs.Externs.{EXTERN-BYTES}
-use Rattle.tables.specs.Symbols.{SYMBOL-BYTES}
+use Rattle.symbol_table.specs.Symbols.{SYMBOL-BYTES}
 use Rattle.tables.specs.Sections.{SECTION-BYTES}
 use Rattle.externs.specs.Externs.{insertName, externRecords, externsTo}
 use Rattle.externs.specs.Puts.{putsBy, puts}
 use Rattle.externs.specs.Slot.{slotFrom}
 use Rattle.fixups.specs.Lists.{recordsTo, sectionsTo, fixAtRecord}
 use Rattle.fixups.specs.Outcome.{byKind, resolved, bySymbol, outcome}
-use Rattle.fixups.specs.Target.{slotTarget, dataTarget, targetBy}
+use Rattle.targets.specs.Target.{slotTarget, dataTarget, targetBy}
 use Rattle.survey.specs.declared.answer.Counts.{Counts}
 use Rattle.survey.specs.declared.answer.Survey.{Survey}
 use Rattle.survey.specs.declared.answer.Survey.the-variants.{Accepted, Refused}
 use Rattle.survey.specs.Survey.{firstFailed, checks, counts, answerBy, surveyOf}
 use Rattle.survey.specs.Acceptance.{IsFixed, no-skips-all-fixed}
 use Rattle.image.specs.MarkWords.{markCount}
-use Rattle.load.specs.Load.{Storage, baseOk, layoutRoom, listsRoom, roomOk, stored, loadChecks, Loads}
+use Rattle.checks.specs.Checks.{baseOk}
+use Rattle.load.specs.Load.{Storage, layoutRoom, listsRoom, roomOk, stored, loadChecks, Loads}
 use Rattle.load.specs.Loading.{storage}
 use Rattle.demands.specs.Calls.{Call, afterCalls}
 use Rattle.demands.specs.Origin.{fixupAt, fixupValue}

@@ -12,7 +12,7 @@ use Rattle.le.specs.Le.{part, part-at, length-part}
 use Rattle.object.specs.Format.{headerOf}
 use Rattle.layout.specs.Layout.{startsTo, undefStart}
 use Rattle.checks.specs.Limits.{MAX-PAGES, MAX-EXTERNS}
-use Rattle.tables.specs.Relocations.{FIXUP-BYTES}
+use Rattle.lists.specs.Relocations.{FIXUP-BYTES}
 use Rattle.tables.specs.Externs.{EXTERN-BYTES}
 use Rattle.tables.specs.Sections.{SECTION-BYTES}
 use Rattle.survey.specs.declared.answer.Counts.{Counts}
@@ -21,7 +21,8 @@ use Rattle.survey.specs.Survey.{surveyOf}
 use Rattle.image.specs.MarkWords.{markCount}
 use Rattle.image.specs.Laid.{laidImage}
 use Rattle.image.specs.LaidLaws.{length-laid}
-use Rattle.load.specs.Load.{Storage, baseOk, Loads}
+use Rattle.checks.specs.Checks.{baseOk}
+use Rattle.load.specs.Load.{Storage, Loads}
 use Rattle.load.specs.LoadLaws.{load-accepts, load-leaves, rooms, pages-counted}
 use Rattle.demands.specs.Origin.{slotsOf}
 use Rattle.demands.specs.Calls.{Call}

@@ -21,8 +21,8 @@ use Rattle.checks.specs.Limits.{MAX-PAGES, MAX-BASE}
 use Rattle.fixups.specs.declared.Fix.{Fix}
 use Rattle.fixups.specs.Value.{valueOf}
 use Rattle.survey.specs.Survey.{outcomes}
-use Rattle.tables.specs.Relocations.{FIXUP-BYTES}
-use Rattle.tables.specs.TableLaws.{length-fixes, fix-place, fix-bits, fix-value}
+use Rattle.lists.specs.Relocations.{FIXUP-BYTES}
+use Rattle.lists.specs.RelocationLaws.{length-fixes, fix-place, fix-bits, fix-value}
 use Rattle.image.specs.MarkWords.{markCount}
 use Rattle.image.specs.MarkLaws.{length-marks, mark-spans, mark-storage}
 use Rattle.patch.specs.Fixes.{fixCount, placeAt, bitsAt, valueAt, fixOk}

@@ -7,7 +7,7 @@ use lib.Dec.{leb, ltb}
 use lib.ListN.{length, getD}
 use Rattle.util.specs.Pick.{pick}
 use Rattle.le.specs.Le.{le}
-use Rattle.object.specs.declared.RelocationKind.the-variants.{Unknown}
+use Rattle.kinds.specs.declared.RelocationKind.the-variants.{Unknown}
 use Rattle.object.specs.Format.{headerOf}
 use Rattle.object.specs.Section.{loaded, fileStart, fileEnd, rangeLength, relocationCount}
 use Rattle.layout.specs.Layout.{SLOT-SIZE, startAt, undefStart}

@@ -10,7 +10,7 @@ use Rattle.le.specs.Le.{get}
 use Rattle.survey.specs.declared.answer.Counts.{Counts}
 use Rattle.survey.specs.declared.answer.Survey.the-variants.{Accepted}
 use Rattle.survey.specs.Survey.{surveyOf}
-use Rattle.load.specs.Load.{baseOk}
+use Rattle.checks.specs.Checks.{baseOk}
 use Rattle.demands.specs.Calls.{Call, patch, afterCall, afterCalls}
 use Rattle.demands.specs.Origin.{origin, byteOf}
 use Rattle.demands.specs.Counted.{pagesOf, imageOf, marksOf, fixesOf}

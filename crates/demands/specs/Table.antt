@@ -11,12 +11,13 @@ use Rattle.survey.specs.declared.answer.Survey.the-variants.{Accepted, Refused}
 use Rattle.survey.specs.Survey.{surveyOf, externChecks, homes}
 use Rattle.fixups.specs.Outcome.{fixOf}
 use Rattle.tables.specs.Sections.{sectionWords, undefWords}
-use Rattle.tables.specs.Symbols.{symbolWords}
+use Rattle.symbol_table.specs.Symbols.{symbolWords}
 use Rattle.tables.specs.Externs.{externWords}
-use Rattle.tables.specs.Relocations.{fixWords}
+use Rattle.lists.specs.Relocations.{fixWords}
 use Rattle.externs.specs.Externs.{externs}
 use Rattle.layout.specs.Layout.{undefStart}
-use Rattle.load.specs.Load.{Storage, baseOk, loadChecks}
+use Rattle.checks.specs.Checks.{baseOk}
+use Rattle.load.specs.Load.{Storage, loadChecks}
 use Rattle.demands.specs.Calls.{Call, patch, upFrom, appliedBy, applied}
 use Rattle.demands.specs.Origin.{fixupAt, slotValue, undefAddress, covers, latest, originBy, byteOf}
 use Rattle.demands.specs.Demand3.{imageAfter, Demand3, demand-3}
@@ -32,9 +33,11 @@ use Rattle.util.specs.Prefix.{allTo, anyTo, sumTo, countTo, listTo}
 use Rattle.arch.specs.Machine.{archOf}
 use Rattle.le.specs.Le.{get, le, part}
 use Rattle.object.specs.Format.{headerOf, stringLength}
-use Rattle.object.specs.Relocation.{type32, type64, typeOf}
-use Rattle.object.specs.Section.{loadedBy, alignOf, permissionsBy, fileStart, fileEnd, rangeLength, extended, relocationRecords, relocationCount, relocationStart}
-use Rattle.object.specs.Symbol.{isFunction, codeOrData, staticKind, kindBy, zeroPlace, placeBy, listedBy, owed, primary}
+use Rattle.kinds.specs.Types.{type32, type64, typeOf}
+use Rattle.object.specs.Section.{fileStart, fileEnd, rangeLength, extended, relocationRecords, relocationCount, relocationStart}
+use Rattle.kinds.specs.Flags.{loadedBy, alignOf, permissionsBy}
+use Rattle.object.specs.Symbol.{owed, primary}
+use Rattle.kinds.specs.Symbol.{isFunction, codeOrData, staticKind, kindBy, zeroPlace, placeBy, listedBy}
 use Rattle.names.specs.Bytes.{run, goodSectionName, goodSymbolName, decimalTo, compareBytes, sameBytes}
 use Rattle.names.specs.Name.{nameBytes, longRun, symbolRun, slashRun, sectionRun, checked}
 use Rattle.layout.specs.Home.{firstIn, isHome, isNamed, homeStart, homeRecord, homeCell, recordsTo}
@@ -46,7 +49,7 @@ use Rattle.externs.specs.Slot.{slotFrom}
 use Rattle.fixups.specs.Lists.{sectionsTo, fixAtRecord, skipAtRecord}
 use Rattle.fixups.specs.Outcome.{byKind, resolved, bySymbol, outcome}
 use Rattle.fixups.specs.Tally.{passes, tallyOf}
-use Rattle.fixups.specs.Target.{homeTarget, slotTarget, namedTarget, labelTarget, dataTarget, sectionTarget, targetBy}
+use Rattle.targets.specs.Target.{homeTarget, slotTarget, namedTarget, labelTarget, dataTarget, sectionTarget, targetBy}
 use Rattle.fixups.specs.Value.{valueOf}
 use Rattle.survey.specs.Listed.{cellOf, listed}
 use Rattle.survey.specs.Survey.{firstFailed, countsBy, answerBy}

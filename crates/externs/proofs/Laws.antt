@@ -27,14 +27,15 @@ use lib.Seq.{
 }
 use Rattle.util.specs.Pick.{pick, le-or-lt}
 use Rattle.object.specs.declared.Header.{Header}
-use Rattle.object.specs.declared.SymbolKind.{SymbolKind}
-use Rattle.object.specs.declared.SymbolKind.the-variants.{Unknown, Text, Data, Section, File, Label}
-use Rattle.object.specs.declared.Place.{Place}
+use Rattle.kinds.specs.declared.SymbolKind.{SymbolKind}
+use Rattle.kinds.specs.declared.SymbolKind.the-variants.{Unknown, Text, Data, Section, File, Label}
+use Rattle.kinds.specs.declared.Place.{Place}
 use Rattle.object.specs.Section.{relocationCount}
 use Rattle.object.specs.Symbol.{kind, symbolPlace}
 use Rattle.object.specs.Relocation.{relocationSymbol}
 use Rattle.names.specs.declared.Order.{Order}
 use Rattle.names.specs.declared.Order.the-variants.{Less, Equal, Greater}
+use Rattle.names.specs.Bytes.{sameBytes, compareBytes}
 use Rattle.names.specs.Name.{symbolText}
 use Rattle.externs.specs.Puts.{sectionNamed, outside, missing, isCommon, putsBy, putsName, isOwn, puts}
 use Rattle.externs.specs.Externs.{insertName, externRecords, externsTo, Holds}
@@ -395,3 +396,10 @@ module _ (f : List ℕ) (h : Header) (name list : List ℕ) where
   half-none lo n x k q = sym (halves-none n lo n k) ∙ q
 
 pub ruleset half-loop = (half-left, half-here, half-right, half-none)
+
+-- ---- names that are known by an equation
+pub same-by : (s t name : List ℕ) {r : Bool} → r ≡ sameBytes s name → s ≡ t → r ≡ sameBytes t name
+same-by s t name p q = rw (← q) p
+
+pub order-by : (name s t : List ℕ) {r : Order} → r ≡ compareBytes name s → s ≡ t → r ≡ compareBytes name t
+order-by name s t p q = rw (← q) p

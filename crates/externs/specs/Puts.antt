@@ -6,10 +6,10 @@ use lib.Dec.{eqb}
 use lib.ListN.{getD}
 use Rattle.util.specs.Prefix.{anyTo}
 use Rattle.object.specs.declared.Header.{Header}
-use Rattle.object.specs.declared.SymbolKind.{SymbolKind}
-use Rattle.object.specs.declared.SymbolKind.the-variants.{Unknown, Text, Data, Section, File, Label}
-use Rattle.object.specs.declared.Place.{Place}
-use Rattle.object.specs.declared.Place.the-variants.{In, Undefined, Common, Absolute, Nowhere, Other}
+use Rattle.kinds.specs.declared.SymbolKind.{SymbolKind}
+use Rattle.kinds.specs.declared.SymbolKind.the-variants.{Unknown, Text, Data, Section, File, Label}
+use Rattle.kinds.specs.declared.Place.{Place}
+use Rattle.kinds.specs.declared.Place.the-variants.{In, Undefined, Common, Absolute, Nowhere, Other}
 use Rattle.object.specs.Symbol.{kind, symbolPlace}
 use Rattle.object.specs.Relocation.{relocationSymbol}
 use Rattle.names.specs.Bytes.{sameBytes}

@@ -1,8 +1,8 @@
 // The extern names, from get_coff_extern_names: kept as symbol numbers, sorted by the bytes of their names.
+use kinds::Place;
+use kinds::SymbolKind;
 use names::Order;
 use object::Header;
-use object::Place;
-use object::SymbolKind;
 ghost use mathlib.Core.Path.{_≡_};
 ghost use Prim.Native.Nat.{_+_, _≤_, _<_};
 ghost use lib.ListN.{length};

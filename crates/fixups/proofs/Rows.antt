@@ -6,7 +6,7 @@ use native.Mathlib.Omega.{arith}
 use native.Mathlib.Numerals.{add-one}
 use Rattle.util.specs.Pick.{pick}
 use Rattle.util.specs.Prefix.{sumTo, countTo}
-use Rattle.fixups.specs.declared.Skip.{Skip}
+use Rattle.targets.specs.declared.Skip.{Skip}
 use Rattle.fixups.specs.declared.Fix.{Fix}
 use Rattle.fixups.specs.declared.Outcome.{Outcome}
 use Rattle.fixups.specs.declared.Outcome.the-variants.{Passed, Skipped, TurnedDown, Fixup}

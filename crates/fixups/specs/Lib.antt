@@ -1,4 +1,3 @@
-pub mod Target
 pub mod Outcome
 pub mod Value
 pub mod Tally

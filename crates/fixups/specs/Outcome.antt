@@ -6,19 +6,20 @@ use lib.ListN.{getD}
 use Rattle.util.specs.Pick.{pick}
 use Rattle.arch.specs.declared.Arch.{Arch}
 use Rattle.object.specs.declared.Header.{Header}
-use Rattle.object.specs.declared.RelocationKind.{RelocationKind}
-use Rattle.object.specs.declared.RelocationKind.the-variants.{Absolute, ImageOffset, SectionOffset, Relative, NotCarried, Unknown}
-use Rattle.object.specs.declared.RelocationType.{RelocationType}
-use Rattle.object.specs.Relocation.{relocationAddress, relocationSymbol, relocationType, typeOf}
+use Rattle.kinds.specs.declared.RelocationKind.{RelocationKind}
+use Rattle.kinds.specs.declared.RelocationKind.the-variants.{Absolute, ImageOffset, SectionOffset, Relative, NotCarried, Unknown}
+use Rattle.kinds.specs.declared.RelocationType.{RelocationType}
+use Rattle.object.specs.Relocation.{relocationAddress, relocationSymbol, relocationType}
+use Rattle.kinds.specs.Types.{typeOf}
 use Rattle.externs.specs.declared.Found.{Found}
 use Rattle.externs.specs.Puts.{isOwn}
-use Rattle.fixups.specs.declared.Skip.the-variants.{NoSymbol, NoType}
-use Rattle.fixups.specs.declared.Target.{Target}
-use Rattle.fixups.specs.declared.Target.the-variants.{Home, Named, Slot, Missing, Refused}
+use Rattle.targets.specs.declared.Skip.the-variants.{NoSymbol, NoType}
+use Rattle.targets.specs.declared.Target.{Target}
+use Rattle.targets.specs.declared.Target.the-variants.{Home, Named, Slot, Missing, Refused}
 use Rattle.fixups.specs.declared.Fix.{Fix}
 use Rattle.fixups.specs.declared.Outcome.{Outcome}
 use Rattle.fixups.specs.declared.Outcome.the-variants.{Passed, Skipped, TurnedDown, Fixup}
-use Rattle.fixups.specs.Target.{targetOf}
+use Rattle.targets.specs.Target.{targetOf}
 
 -- with place and target known, the type decides: an unknown one is skipped, one that is not carried is refused
 unfoldable pub byKind : RelocationKind → Fix → Outcome

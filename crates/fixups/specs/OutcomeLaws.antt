@@ -12,18 +12,19 @@ use Rattle.util.specs.Pick.{pick, yes-no, pick-either}
 use Rattle.arch.specs.declared.Arch.{Arch}
 use Rattle.arch.specs.declared.Arch.the-variants.{X32, X64}
 use Rattle.object.specs.declared.Header.{Header}
-use Rattle.object.specs.declared.RelocationKind.{RelocationKind}
-use Rattle.object.specs.declared.RelocationKind.the-variants.{Absolute, ImageOffset, SectionOffset, Relative, NotCarried, Unknown}
-use Rattle.object.specs.declared.RelocationType.{RelocationType}
-use Rattle.object.specs.Relocation.{relocationAddress, relocationSymbol, relocationType, type32, type64, typeOf}
+use Rattle.kinds.specs.declared.RelocationKind.{RelocationKind}
+use Rattle.kinds.specs.declared.RelocationKind.the-variants.{Absolute, ImageOffset, SectionOffset, Relative, NotCarried, Unknown}
+use Rattle.kinds.specs.declared.RelocationType.{RelocationType}
+use Rattle.object.specs.Relocation.{relocationAddress, relocationSymbol, relocationType}
+use Rattle.kinds.specs.Types.{type32, type64, typeOf}
 use Rattle.externs.specs.declared.Found.{Found}
 use Rattle.externs.specs.Puts.{isOwn}
-use Rattle.fixups.specs.declared.Skip.the-variants.{NoSymbol, NoType}
-use Rattle.fixups.specs.declared.Target.{Target}
-use Rattle.fixups.specs.declared.Target.the-variants.{Home, Named, Slot, Missing, Refused}
+use Rattle.targets.specs.declared.Skip.the-variants.{NoSymbol, NoType}
+use Rattle.targets.specs.declared.Target.{Target}
+use Rattle.targets.specs.declared.Target.the-variants.{Home, Named, Slot, Missing, Refused}
 use Rattle.fixups.specs.declared.Fix.{Fix}
 use Rattle.fixups.specs.declared.Outcome.the-variants.{Passed, Skipped, TurnedDown, Fixup}
-use Rattle.fixups.specs.Target.{targetOf}
+use Rattle.targets.specs.Target.{targetOf}
 use Rattle.fixups.specs.Outcome.{byKind, fixOf, fixAt, resolved, bySymbol, outcome}
 use Rattle.fixups.specs.Tally.{isPassed}
 

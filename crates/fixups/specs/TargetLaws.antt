@@ -8,10 +8,10 @@ use lib.ListN.{getD}
 use borrow.Author.Tests.{ltb-true}
 use Rattle.util.specs.Pick.{pick-either}
 use Rattle.object.specs.declared.Header.{Header}
-use Rattle.object.specs.declared.SymbolKind.{SymbolKind}
-use Rattle.object.specs.declared.SymbolKind.the-variants as kinds
-use Rattle.object.specs.declared.Place.{Place}
-use Rattle.object.specs.declared.Place.the-variants.{In, Undefined, Common, Absolute, Nowhere, Other}
+use Rattle.kinds.specs.declared.SymbolKind.{SymbolKind}
+use Rattle.kinds.specs.declared.SymbolKind.the-variants as kinds
+use Rattle.kinds.specs.declared.Place.{Place}
+use Rattle.kinds.specs.declared.Place.the-variants.{In, Undefined, Common, Absolute, Nowhere, Other}
 use Rattle.object.specs.Symbol.{kind, symbolPlace}
 use Rattle.names.specs.Bytes.{sameBytes, UNDEF}
 use Rattle.names.specs.Name.{symbolText}
@@ -20,10 +20,10 @@ use Rattle.layout.specs.Home.{isNamed, namedRecord, homeCell}
 use Rattle.layout.specs.HomeLaws.{cell-most}
 use Rattle.externs.specs.declared.Found.{Found}
 use Rattle.externs.specs.declared.Found.the-variants.{At, Nothing}
-use Rattle.fixups.specs.declared.Skip.the-variants.{NoHome, NoSlot}
-use Rattle.fixups.specs.declared.Target.{Target}
-use Rattle.fixups.specs.declared.Target.the-variants.{Home, Named, Slot, Missing, Refused}
-use Rattle.fixups.specs.Target.{homeTarget, slotTarget, namedTarget, labelTarget, slotFor, namedFor, dataTarget, sectionTarget, targetBy, targetOf}
+use Rattle.targets.specs.declared.Skip.the-variants.{NoHome, NoSlot}
+use Rattle.targets.specs.declared.Target.{Target}
+use Rattle.targets.specs.declared.Target.the-variants.{Home, Named, Slot, Missing, Refused}
+use Rattle.targets.specs.Target.{homeTarget, slotTarget, namedTarget, labelTarget, slotFor, namedFor, dataTarget, sectionTarget, targetBy, targetOf}
 use Rattle.fixups.specs.OutcomeLaws.{Reaches}
 
 -- the offset of a target, 0 where it has none

@@ -3,8 +3,8 @@
 use mathlib.Core.Bool.{Bool, true, false}
 use Prim.Native.Nat.{ℕ, _+_, _-_, _%_, _^_}
 use Rattle.util.specs.Pick.{pick}
-use Rattle.object.specs.declared.RelocationKind.{RelocationKind}
-use Rattle.object.specs.declared.RelocationKind.the-variants.{Absolute, ImageOffset, SectionOffset, Relative, NotCarried, Unknown}
+use Rattle.kinds.specs.declared.RelocationKind.{RelocationKind}
+use Rattle.kinds.specs.declared.RelocationKind.the-variants.{Absolute, ImageOffset, SectionOffset, Relative, NotCarried, Unknown}
 use Rattle.fixups.specs.declared.Fix.{Fix}
 
 abbrev pub isRelative : RelocationKind → Bool

@@ -11,9 +11,9 @@ use borrow.Author.Tests.{leb-true}
 use Rattle.util.specs.Pick.{pick, yes-no, le-or-lt, and-left, and-right, not-both, pick-either}
 use Rattle.arch.specs.declared.Arch.{Arch}
 use Rattle.arch.specs.declared.Arch.the-variants.{X32, X64}
-use Rattle.object.specs.declared.RelocationKind.{RelocationKind}
-use Rattle.object.specs.declared.RelocationType.{RelocationType}
-use Rattle.object.specs.Relocation.{type32, type64, typeOf}
+use Rattle.kinds.specs.declared.RelocationKind.{RelocationKind}
+use Rattle.kinds.specs.declared.RelocationType.{RelocationType}
+use Rattle.kinds.specs.Types.{type32, type64, typeOf}
 use Rattle.le.specs.Le.{get, le, get-low}
 use Rattle.checks.specs.Limits.{MAX-BASE}
 use Rattle.fixups.specs.declared.Fix.{Fix}

@@ -1,31 +1,12 @@
 // What becomes of each relocation, from get_coff_fixups. Places and targets are offsets from the base; the base enters in `value` alone.
 mod outcomes;
 mod tallies;
-mod targets;
 
-use object::RelocationKind;
+use kinds::RelocationKind;
 pub use outcomes::outcome_of;
 pub use outcomes::value;
 pub use tallies::tally_of;
-pub use targets::cell_of_number;
-pub use targets::target_of;
-
-// Why a relocation is skipped: K1 to K4.
-pub enum Skip {
-    NoSymbol,
-    NoHome,
-    NoSlot,
-    NoType,
-}
-
-// What a symbol comes to: its section's home, a section found by name, a slot; a reason to skip; or a refusal.
-pub enum Target {
-    Home(u64),
-    Named(u64),
-    Slot(u64),
-    Missing(Skip),
-    Refused,
-}
+use targets::Skip;
 
 // A fixup before the base is known: the addend is in two's complement.
 pub struct Fix {

@@ -1,13 +1,12 @@
 // What becomes of a relocation, and a fixup's value.
 use crate::Fix;
 use crate::Outcome;
-use crate::Skip;
-use crate::Target;
-use crate::targets;
 use arch::Arch;
+use kinds::RelocationKind;
+use kinds::RelocationType;
 use object::Header;
-use object::RelocationKind;
-use object::RelocationType;
+use targets::Skip;
+use targets::Target;
 ghost use mathlib.Core.Path.{_≡_};
 ghost use Rattle.externs.specs.Bisect.{bisect};
 ghost use Rattle.fixups.specs.Outcome.{byKind, fixAt, resolved, bySymbol, outcome};
@@ -96,7 +95,7 @@ pub fn outcome_of(
         return Outcome::Passed;
     }
     let place = (cell - 1) as u64 + object::relocation_address(f, h, i, k) as u64;
-    let t = object::type_of(arch, object::relocation_type(f, h, i, k));
+    let t = kinds::type_of(arch, object::relocation_type(f, h, i, k));
     by_symbol(
         f,
         h,

@@ -11,7 +11,7 @@ use lib.ListN.{getD, length}
 use lib.Pow.{shl-exact}
 use mathlib.Core.Logic.{⊎-elim}
 use Rattle.util.specs.Pick.{pick, yes-no}
-use Rattle.le.specs.Le.{le, splice, splice-next}
+use Rattle.le.specs.Le.{le, part, splice, splice-next}
 use Rattle.object.specs.declared.Header.{Header}
 use Rattle.object.specs.Format.{rawPointer, rawSize}
 use Rattle.object.specs.Section.{loaded, uninitialized, fileStart, fileEnd}
@@ -125,3 +125,10 @@ pub ruleset marks-loop = (marks-none, marks-again, marks-end)
 -- ---- the three writes, one behind another
 pub laid-is : (f : List ℕ) (h : Header) (starts image a b c : List ℕ) (pages base undef n : ℕ) → a ≡ zeroed pages image → b ≡ sectionsLaid f h starts a (h .sections) → c ≡ slotsLaid base undef b n → c ≡ laid f h starts pages base undef n image
 laid-is f h starts image a b c pages base undef n p q r = rw (← p, ← q) r
+
+-- ---- bytes and words that are known by equations
+pub bytes-by : (f : List ℕ) (h : Header) (i a b : ℕ) {r : List ℕ} → r ≡ part f a (b - a) → a ≡ fileStart f h i → b ≡ fileEnd f h i → r ≡ sectionBytes f h i
+bytes-by f h i a b p q e = rw (← q, ← e) p
+
+pub mark-by : (l : List ℕ) (at v u : ℕ) {r : List ℕ} → r ≡ splice l at (le 8 v) → v ≡ u → r ≡ splice l at (le 8 u)
+mark-by l at v u p q = rw (← q) p

@@ -56,7 +56,7 @@ fn lay_slots(base: u32, undef: u32, n: u32, image: &mut [u8])
 }
 
 // Zero pages, the sections' bytes, the slots of n extern names.
-pub fn lay(
+fn lay(
     f: &[u8],
     h: Header,
     starts: &[u32],
@@ -106,7 +106,7 @@ fn put_mark(pages: u32, w: u32, marks: &mut [u8])
 }
 
 // The marks of the mapped pages.
-pub fn put_marks(pages: u32, marks: &mut [u8])
+fn put_marks(pages: u32, marks: &mut [u8])
     ensures { λ _. ⌜ now (marks .exit) ≡ splice (now (marks .entry)) 0 (markBytes pages (markCount pages)) ⌝ }
 {
     let n = ((pages as u64 + 63) / 64) as u32;
@@ -115,4 +115,23 @@ pub fn put_marks(pages: u32, marks: &mut [u8])
         put_mark(pages, w, marks);
         w += 1;
     }
+}
+
+// The image and its marks.
+pub fn lay_marked(
+    f: &[u8],
+    h: Header,
+    starts: &[u32],
+    pages: u32,
+    base: u32,
+    undef: u32,
+    n: u32,
+    image: &mut [u8],
+    marks: &mut [u8],
+)
+    ensures { λ _. ⌜ now (image .exit) ≡ laid (now (f .entry)) h (now (starts .entry)) pages base undef n (now (image .entry)) ⌝ }
+    ensures { λ _. ⌜ now (marks .exit) ≡ splice (now (marks .entry)) 0 (markBytes pages (markCount pages)) ⌝ }
+{
+    lay(f, h, starts, pages, base, undef, n, image);
+    put_marks(pages, marks);
 }

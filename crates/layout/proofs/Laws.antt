@@ -17,7 +17,7 @@ use Rattle.names.specs.Bytes.{sameBytes}
 use Rattle.names.specs.Name.{sectionText}
 use Rattle.layout.specs.declared.Home.{Home}
 use Rattle.layout.specs.Layout.{nextStart, startAt, recordOf, tableRecords, nextRecord, startsTo}
-use Rattle.layout.specs.Home.{firstIn, isHome, isNamed, homeOf, homeCell, homeRecord, homesTo, recordsTo}
+use Rattle.layout.specs.Home.{firstIn, isHome, isNamed, homeAt, homeOf, homeCell, homeRecord, homesTo, recordsTo}
 
 -- ---- one section further
 pub next-is : (at n r : ℕ) → at < 2 ^ 60 → n < 2 ^ 33 → r ≡ roundUp (at + n) 4096 % 2 ^ 64 → r ≡ roundUp (at + n) 4096
@@ -178,3 +178,11 @@ pub ruleset record-loop = (count-none, count-yes, count-no, record-end)
 pub ruleset first-loop = (start-none, start-again, first-begin, first-here, first-other, first-undef, first-none, first-undef-by, first-none-by)
 
 pub ruleset homes-loop = (fill-none, homes-again, fill-end)
+
+-- ---- a home by its file start
+module _ (f : List ℕ) (h : Header) (s t : ℕ) where
+  pub cell-by : {r : ℕ} → r ≡ homeCell f h (homeAt f h s) → s ≡ t → r ≡ homeCell f h (homeAt f h t)
+  cell-by p q = rw (← q) p
+
+  pub record-by : {r : ℕ} → r ≡ homeRecord f h (homeAt f h s) → s ≡ t → r ≡ homeRecord f h (homeAt f h t)
+  record-by p q = rw (← q) p

@@ -20,16 +20,16 @@ use Rattle.object.specs.declared.Header.{Header}
 use Rattle.layout.specs.Layout.{startsTo}
 use Rattle.layout.specs.Home.{recordsTo}
 use Rattle.tables.specs.Sections.{sectionTable}
-use Rattle.tables.specs.Symbols.{symbolTable}
+use Rattle.symbol_table.specs.Symbols.{symbolTable}
 use Rattle.tables.specs.Externs.{externTable}
 use Rattle.image.specs.Laid.{laid}
 use Rattle.image.specs.MarkWords.{markBytes}
-use Rattle.load.specs.Load.{Storage, lengthsOf, baseOk, layoutRoom, listsRoom, roomFor, roomOk, storedBy, stored, LoadIs, Loads}
+use Rattle.load.specs.Load.{Storage, lengthsOf, layoutRoom, listsRoom, roomFor, roomOk, storedBy, stored, LoadIs, Loads}
 use Rattle.arch.specs.declared.Arch.{Arch}
 use Rattle.object.specs.Section.{relocationCount}
 use Rattle.externs.specs.Bisect.{bisect}
 use Rattle.fixups.specs.Outcome.{outcome}
-use Rattle.tables.specs.Relocations.{fixTable, skipTable, BothWritten}
+use Rattle.lists.specs.Relocations.{fixTable, skipTable, BothWritten}
 use Rattle.refusal.specs.Refusal.{PAGES, EXTERNS, PLACE, BASE, STORAGE}
 use Rattle.layout.specs.Layout.{mappedPages}
 use Rattle.survey.specs.declared.answer.Survey.{Survey}
@@ -37,7 +37,7 @@ use Rattle.survey.specs.declared.answer.Survey.the-variants.{Accepted, Refused}
 use Rattle.survey.specs.Survey.{Check, check, firstFailed, recordChecks, externChecks, targetChecks, checks, counts, tally, tallyBy, countsBy, ownMap, homes, answerBy}
 use Rattle.survey.specs.Surveying.{Fits, plannedBy}
 use Rattle.survey.specs.SurveyLaws.{check-holds, checks-hold, failed-first, Ordered, ordered, records-rest, says-refused, tells-accepted, tells-refused}
-use Rattle.checks.specs.Checks.{pagesOk}
+use Rattle.checks.specs.Checks.{pagesOk, baseOk}
 use Rattle.object.specs.Format.{headerOf}
 use Rattle.object.specs.Symbol.{primaries}
 use Rattle.layout.specs.Home.{homesTo}
@@ -49,18 +49,6 @@ use Rattle.externs.specs.Slot.{slotOf}
 use Rattle.externs.specs.BisectLaws.{bisect-externs}
 use Rattle.fixups.specs.declared.Tally.{Tally}
 use Rattle.load.specs.Loading.{LayoutIs, NamesAre, Limits, Planned, storage, roomCode, plannedCounts, plannedCode, LoadsWith, LoadsAt}
-
--- ---- 12
-module _ (base : ℕ) where
-  pub base-on : eqb (base % 4096) 0 ≡ true → leb base 2130706432 ≡ baseOk base
-  unfolding baseOk
-  base-on e = rw e
-
-  pub base-off : eqb (base % 4096) 0 ≡ false → false ≡ baseOk base
-  unfolding baseOk
-  base-off e = rw e
-
-pub ruleset bases = (base-on, base-off)
 
 -- a base that is allowed fits 32 bits
 low : (base : ℕ) → baseOk base ≡ true → base % 4294967296 ≡ base

@@ -2,7 +2,7 @@
 use mathlib.Core.Path.{_≡_}
 use mathlib.Core.Bool.{Bool, _&&_}
 use mathlib.Core.List.{List, [], _∷_, _++_}
-use Prim.Native.Nat.{ℕ, _*_, _%_}
+use Prim.Native.Nat.{ℕ, _*_}
 use lib.Dec.{leb, eqb}
 use lib.ListN.{length}
 use Rattle.refusal.specs.Refusal.{BASE, STORAGE}
@@ -14,7 +14,7 @@ use Rattle.object.specs.Format.{headerOf}
 use Rattle.object.specs.Section.{relocationCount}
 use Rattle.layout.specs.Layout.{undefStart, mappedPages, startsTo}
 use Rattle.layout.specs.Home.{recordsTo}
-use Rattle.checks.specs.Limits.{MAX-BASE}
+use Rattle.checks.specs.Checks.{baseOk}
 use Rattle.externs.specs.declared.Found.{Found}
 use Rattle.externs.specs.Externs.{externs}
 use Rattle.externs.specs.Slot.{slotOf}
@@ -23,9 +23,9 @@ use Rattle.survey.specs.declared.answer.Survey.{Survey}
 use Rattle.survey.specs.Survey.{Check, check, firstFailed, checks, counts, ownMap, homes, outcomesBy, answerBy}
 use Rattle.load.specs.declared.Lengths.{Lengths}
 use Rattle.tables.specs.Sections.{SECTION-BYTES, sectionTable}
-use Rattle.tables.specs.Symbols.{SYMBOL-BYTES, symbolTable}
+use Rattle.symbol_table.specs.Symbols.{SYMBOL-BYTES, symbolTable}
 use Rattle.tables.specs.Externs.{EXTERN-BYTES, externTable}
-use Rattle.tables.specs.Relocations.{FIXUP-BYTES, SKIP-BYTES, fixTable, skipTable}
+use Rattle.lists.specs.Relocations.{FIXUP-BYTES, SKIP-BYTES, fixTable, skipTable}
 use Rattle.image.specs.Laid.{laidImage}
 use Rattle.image.specs.MarkWords.{markCount, markBytes}
 
@@ -38,10 +38,6 @@ pub record Storage : Type 0 where
   pub externs : List ℕ
   pub fixups : List ℕ
   pub skips : List ℕ
-
--- 12: the base is a page multiple and not above the highest
-unfoldable pub baseOk : ℕ → Bool
-baseOk base = eqb (base % PAGE-SIZE) 0 && leb base MAX-BASE
 
 -- 13: each buffer has room for what is counted
 unfoldable pub layoutRoom : Counts → Lengths → Bool

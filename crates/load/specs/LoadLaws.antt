@@ -25,16 +25,19 @@ use Rattle.survey.specs.Listed.{listedTotal}
 use Rattle.survey.specs.Survey.{Check, check, firstFailed, externChecks, targetChecks, checks, counts, countsBy, tally, ownMap, homes, outcomes, answerBy, surveyOf}
 use Rattle.survey.specs.SurveyLaws.{check-holds, checks-hold, Ordered, ordered, ordered-rest, records-rest, tells-accepted, tells-refused}
 use Rattle.tables.specs.Sections.{SECTION-BYTES, sectionTable}
-use Rattle.tables.specs.Symbols.{SYMBOL-BYTES, symbolTable}
+use Rattle.symbol_table.specs.Symbols.{SYMBOL-BYTES, symbolTable}
 use Rattle.tables.specs.Externs.{EXTERN-BYTES, externTable}
-use Rattle.tables.specs.Relocations.{FIXUP-BYTES, SKIP-BYTES, fixTable, skipTable}
-use Rattle.tables.specs.TableLaws.{sections-fill, symbols-fill, length-externs, fixes-fill, skips-fill}
+use Rattle.lists.specs.Relocations.{FIXUP-BYTES, SKIP-BYTES, fixTable, skipTable}
+use Rattle.tables.specs.TableLaws.{sections-fill, length-externs}
+use Rattle.symbol_table.specs.SymbolLaws.{symbols-fill}
+use Rattle.lists.specs.RelocationLaws.{fixes-fill, skips-fill}
 use Rattle.image.specs.MarkWords.{markCount, markBytes}
 use Rattle.image.specs.MarkLaws.{length-marks}
 use Rattle.image.specs.Laid.{laidImage}
 use Rattle.image.specs.LaidLaws.{laid-past}
 use Rattle.load.specs.declared.Lengths.{Lengths}
-use Rattle.load.specs.Load.{Storage, lengthsOf, baseOk, layoutRoom, listsRoom, roomOk, storedBy, stored, loadChecks, Loads}
+use Rattle.checks.specs.Checks.{baseOk}
+use Rattle.load.specs.Load.{Storage, lengthsOf, layoutRoom, listsRoom, roomOk, storedBy, stored, loadChecks, Loads}
 
 -- ---- what the answer says
 pub record LoadAccepts (f : List ℕ) (base : ℕ) (s s′ : Storage) (c : Counts) : Type 0 where

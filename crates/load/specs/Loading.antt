@@ -9,7 +9,7 @@ use Rattle.arch.specs.Machine.{archOf}
 use Rattle.object.specs.declared.Header.{Header}
 use Rattle.layout.specs.Layout.{undefStart, mappedPages}
 use Rattle.tables.specs.Sections.{sectionTable}
-use Rattle.tables.specs.Symbols.{symbolTable}
+use Rattle.symbol_table.specs.Symbols.{symbolTable}
 use Rattle.tables.specs.Externs.{externTable}
 use Rattle.image.specs.Laid.{laid}
 use Rattle.image.specs.MarkWords.{markCount, markBytes}

@@ -13,7 +13,7 @@ ghost use Rattle.layout.specs.Layout.{startsTo};
 ghost use Rattle.layout.specs.Home.{recordsTo};
 ghost use Rattle.survey.specs.Survey.{ownMap, homes};
 ghost use Rattle.survey.specs.Surveying.{Fits};
-ghost use Rattle.load.specs.Load.{baseOk, layoutRoom, listsRoom, roomFor, storedBy, LoadIs, Loads};
+ghost use Rattle.load.specs.Load.{layoutRoom, listsRoom, roomFor, storedBy, LoadIs, Loads};
 ghost use Rattle.load.specs.Loading.{LayoutIs, NamesAre, Limits, Planned, storage, roomCode, plannedCounts, plannedCode, LoadsWith, LoadsAt};
 
 // The bytes of each lent buffer.
@@ -25,18 +25,6 @@ struct Lengths {
     externs: u64,
     fixups: u64,
     skips: u64,
-}
-
-// 12: the base is a page multiple and not too high.
-fn base_ok(base: u64) -> bool
-    ensures { λ r. ⌜ r ≡ baseOk base ⌝ }
-{
-    let on_page = base % 4096 == 0;
-    if on_page {
-        base <= checks::MAX_BASE
-    } else {
-        false
-    }
 }
 
 // The first three buffers have room.
@@ -108,8 +96,7 @@ fn write_laid(
         (now (marks .entry)) (now (marks .exit)) ⌝ }
 {
     tables::write_sections(f, h, base, starts, undef, sections);
-    image::lay(f, h, starts, pages, base, undef, n, image);
-    image::put_marks(pages, marks);
+    image::lay_marked(f, h, starts, pages, base, undef, n, image, marks);
 }
 
 // The section table, the image and its marks; the starts are filled once.
@@ -162,7 +149,7 @@ fn write_listed(
         ⌜ NamesAre (now (f .entry)) h base (now (map .entry)) (now (homes .entry)) (now (records .entry)) undef n (now (set .entry)) (now (symbols .entry))
         (now (symbols .exit)) (now (externs .entry)) (now (externs .exit)) ⌝ }
 {
-    tables::write_symbols(f, h, base, map, homes, records, symbols);
+    symbol_table::write_symbols(f, h, base, map, homes, records, symbols);
     tables::write_externs(f, h, base, undef, set, n, externs);
 }
 
@@ -229,7 +216,7 @@ fn write_all(
 {
     write_layout(f, h, base, undef, pages, n, sections, image, marks);
     write_names(f, h, base, map, homes, undef, n, set, symbols, externs);
-    tables::write_relocations(arch, f, h, map, homes, undef, set, base, fixups, skips);
+    lists::write_relocations(arch, f, h, map, homes, undef, set, base, fixups, skips);
 }
 
 fn write_counted(
@@ -428,45 +415,6 @@ fn load_externs(
     }
 }
 
-// The homes of the sections, filled once.
-fn load_homes(
-    f: &[u8],
-    h: Header,
-    base: u32,
-    map: &[u8],
-    image: &mut [u8],
-    marks: &mut [u8],
-    sections: &mut [u8],
-    symbols: &mut [u8],
-    externs: &mut [u8],
-    fixups: &mut [u8],
-    skips: &mut [u8],
-) -> Survey
-    requires { ⌜ Fits (now f) h ⌝ }
-    ensures { λ r.
-        ⌜ LoadsWith (now (f .entry)) h base (now (map .entry)) (homes (now (f .entry)) h)
-        (storage (now (image .entry)) (now (marks .entry)) (now (sections .entry)) (now (symbols .entry)) (now (externs .entry)) (now (fixups .entry)) (now (skips .entry)))
-        (storage (now (image .exit)) (now (marks .exit)) (now (sections .exit)) (now (symbols .exit)) (now (externs .exit)) (now (fixups .exit)) (now (skips .exit)))
-        r ⌝ }
-{
-    let mut homes = [0u32; 256];
-    layout::fill_homes(f, h, &mut homes);
-    load_externs(
-        f,
-        h,
-        base,
-        map,
-        le::words(&homes, h.sections as usize),
-        image,
-        marks,
-        sections,
-        symbols,
-        externs,
-        fixups,
-        skips,
-    )
-}
-
 // The map of own records, filled once.
 fn load_records(
     f: &[u8],
@@ -489,11 +437,14 @@ fn load_records(
 {
     let mut map = [0u8; 16384];
     object::fill_primaries(f, h, &mut map);
-    load_homes(
+    let mut homes = [0u32; 256];
+    layout::fill_homes(f, h, &mut homes);
+    load_externs(
         f,
         h,
         base,
         le::part(&map, 0, h.symbols as usize),
+        le::words(&homes, h.sections as usize),
         image,
         marks,
         sections,
@@ -560,7 +511,7 @@ pub fn load(
         (storage (now (image .exit)) (now (marks .exit)) (now (sections .exit)) (now (symbols .exit)) (now (externs .exit)) (now (fixups .exit)) (now (skips .exit)))
         r ⌝ }
 {
-    if base_ok(base.0) {
+    if checks::base_ok(base.0) {
         let low = (base.0 % 0x100000000) as u32;
         load_at(
             f,

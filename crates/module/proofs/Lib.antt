@@ -1,3 +1,4 @@
+pub mod Laws
 pub mod Word
 pub mod Words
 pub mod Scan

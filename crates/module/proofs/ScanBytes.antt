@@ -44,10 +44,11 @@ use denote.Triple.Entry.{Vals, onEntry}
 use denote.Triple.Spec.{Meets, tripleOf}
 use denote.Triple.Walked.{says, Stays, stay-none-slice, walkOf, goes-none-slice, Walks, ends-at, walked, walk-meets}
 use denote.Exit.{yes}
-use Rattle.module.specs.declared.Section.{Section}
-use Rattle.module.specs.Section.{blank, nth, firstOf, scan-end, scan-hit, scan-miss}
-use Rattle.module.proofs.Section as T
-use Rattle.module.proofs.Section.Laws as T′
+use Rattle.section.specs.declared.Section.{Section}
+use Rattle.module.specs.Questions.{blank, nth, firstOf}
+use Rattle.module.proofs.Laws.{scan-end, scan-hit, scan-miss}
+use Rattle.section.proofs.Section as T
+use Rattle.section.proofs.Section.Laws as T′
 use Rattle.module.proofs.Word.{Word, makes}
 
 abbrev vals : Section → List Val

@@ -11,12 +11,12 @@ use Rattle.arch.proofs.VA as X
 use Rattle.arch.proofs.VA.Laws as X′
 use Rattle.refusal.proofs.Number as N
 use Rattle.refusal.proofs.Number.Laws as N′
-use Rattle.module.proofs.Probe as Q
-use Rattle.module.proofs.Probe.Laws as Q′
-use Rattle.module.proofs.OffsetProbe as O
-use Rattle.module.proofs.OffsetProbe.Laws as O′
-use Rattle.module.proofs.AddressAnswer as P
-use Rattle.module.proofs.AddressAnswer.Laws as P′
+use Rattle.section.proofs.Probe as Q
+use Rattle.section.proofs.Probe.Laws as Q′
+use Rattle.section.proofs.OffsetProbe as O
+use Rattle.section.proofs.OffsetProbe.Laws as O′
+use Rattle.answers.proofs.AddressAnswer as P
+use Rattle.answers.proofs.AddressAnswer.Laws as P′
 
 abbrev pub va-word : Word
 va-word = record {

@@ -1,6 +1,2 @@
-pub mod Section
-pub mod Symbol
-pub mod Pointer
-pub mod SectionLaws
-pub mod SymbolLaws
-pub mod LoadedLaws
+pub mod Questions
+pub mod QuestionLaws

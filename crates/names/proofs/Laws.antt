@@ -19,7 +19,7 @@ use Rattle.names.specs.declared.Order.{Order}
 use Rattle.names.specs.declared.Order.the-variants.{Less, Equal, Greater}
 use Rattle.names.specs.declared.Name.{Name}
 use Rattle.names.specs.declared.Name.the-variants.{Good, Bad}
-use Rattle.names.specs.Bytes.{run, visible, isDigit, goodSymbolName, allVisible, allDigits, decimal, decimalTo, compareBytes, sameBytes}
+use Rattle.names.specs.Bytes.{run, visible, isDigit, goodSymbolName, goodSectionName, allVisible, allDigits, decimal, decimalTo, compareBytes, sameBytes}
 use Rattle.names.specs.Name.{longRun, symbolRun, slashRun, sectionRun, checked, nameBytes}
 
 left-suc : (i l : ℕ) → i < l → l - i ≡ suc (l - (i + 1))
@@ -265,3 +265,17 @@ module _ (f : List ℕ) (m : Name) where
   pub bytes-bad : m ≡ Bad → [] ≡ nameBytes f m
   unfolding nameBytes
   bytes-bad is = rw is
+
+-- ---- a name by its record: where the record starts, the run there, and what is made of it
+module _ (f : List ℕ) (h : Header) (x : Name) (a b : ℕ) where
+  pub section-text-by : {r : List ℕ} → r ≡ nameBytes f x → x ≡ sectionRun f h a → a ≡ b → r ≡ nameBytes f (sectionRun f h b)
+  section-text-by p q e = rw (← e, ← q) p
+
+  pub symbol-text-by : {r : List ℕ} → r ≡ nameBytes f x → x ≡ symbolRun f h a → a ≡ b → r ≡ nameBytes f (symbolRun f h b)
+  symbol-text-by p q e = rw (← e, ← q) p
+
+  pub section-name-by : {r : Name} → r ≡ checked goodSectionName f x → x ≡ sectionRun f h a → a ≡ b → r ≡ checked goodSectionName f (sectionRun f h b)
+  section-name-by p q e = rw (← e, ← q) p
+
+  pub symbol-name-by : {r : Name} → r ≡ checked goodSymbolName f x → x ≡ symbolRun f h a → a ≡ b → r ≡ checked goodSymbolName f (symbolRun f h b)
+  symbol-name-by p q e = rw (← e, ← q) p

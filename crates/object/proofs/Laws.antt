@@ -1,28 +1,22 @@
 -- The ways through the readers. Assumes nothing.
 use mathlib.Core.Path.{_≡_, refl, _∙_}
-use mathlib.Core.Bool.{Bool, true, false, not}
+use mathlib.Core.Bool.{Bool, true, false}
 use mathlib.Core.List.{List, [], _∷_}
-use mathlib.Core.Logic.{⊎-elim}
-use Prim.Native.Nat.{ℕ, zero, suc, _+_, _-_, _*_, _/_, _%_, _^_, _≤_, _<_}
+use Prim.Native.Nat.{ℕ, _+_, _-_, _/_, _%_, _^_, _≤_, _<_}
 use native.Mathlib.Omega.{arith}
-use native.Mathlib.Nat.{one-mul}
 use native.Mathlib.Numerals.{add-one}
-use lib.Dec.{eqb, lit<}
-use lib.Pow.{shl-exact}
-use borrow.Author.Tests.{eq-eqb, ne-eqb, le-leb, lt-leb, lt-ltb, le-ltb}
-use mir.Syntax.{w16}
-use mir.Val.{toZ}
+use mathlib.Core.Logic.{⊎-elim}
+use lib.Dec.{eqb}
+use lib.ListN.{getD}
+use borrow.Author.Tests.{eq-eqb, ne-eqb}
 use Rattle.util.specs.Pick.{pick, le-or-lt}
 use Rattle.util.specs.Align.{roundUp, align-exact, up-one, up-near}
 use Rattle.le.specs.Le.{get, splice, fill-none, fill-again, fill-end}
+use Rattle.kinds.specs.Flags.{alignOf}
 use Rattle.object.specs.declared.Header.{Header}
-use Rattle.object.specs.declared.SymbolKind.{SymbolKind}
-use Rattle.object.specs.declared.SymbolKind.the-variants.{Section}
-use Rattle.object.specs.declared.Place.{Place}
-use Rattle.object.specs.declared.Place.the-variants.{In, Undefined, Common, Absolute, Nowhere, Other}
 use Rattle.object.specs.Format.{headerOf, stringTable, stringLength, rawSize, rawPointer, relocationPointer, relocationField, flags, auxiliaries}
-use Rattle.object.specs.Section.{loadedBy, alignOf, permissionsBy, fileEnd, rangeLength, extended, relocationRecords, relocationCount, relocationStart, uninitialized}
-use Rattle.object.specs.Symbol.{codeOrData, staticKind, zeroPlace, placeBy, owed, primary, primaries}
+use Rattle.object.specs.Section.{fileEnd, rangeLength, extended, relocationRecords, relocationCount, relocationStart, uninitialized}
+use Rattle.object.specs.Symbol.{owed, primary, primaries}
 
 -- ---- the header
 module _ (f : List ℕ) where
@@ -46,15 +40,6 @@ module _ (f : List ℕ) (h : Header) where
 pub ruleset headers = (count-none, count-some, strings-none, strings-some)
 
 -- ---- flags
-module _ (x : ℕ) where
-  pub loaded-removed : eqb (x / 0x800 % 2) 1 ≡ true → false ≡ loadedBy x
-  unfolding loadedBy
-  loaded-removed e = rw e
-
-  pub loaded-kept : eqb (x / 0x800 % 2) 1 ≡ false → not (eqb (x / 0x2000000 % 2) 1) ≡ loadedBy x
-  unfolding loadedBy
-  loaded-kept e = rw e
-
 module _ (f : List ℕ) (h : Header) (i x : ℕ) where
   pub extended-yes : (n : ℕ) → x ≡ flags f h i → eqb (x / 0x1000000 % 2) 1 ≡ true → n ≡ relocationField f h i → eqb n 65535 ≡ extended f h i
   unfolding extended
@@ -64,82 +49,7 @@ module _ (f : List ℕ) (h : Header) (i x : ℕ) where
   unfolding extended
   extended-no e t = rw (← e, t)
 
-pub ruleset flag-ways = (loaded-removed, loaded-kept, extended-yes, extended-no)
-
--- ---- alignment
-module _ (n : ℕ) where
-  pub align-low : 1 ≤ n → n ≤ 14 → 1 * 2 ^ (n - 1) % 2 ^ 32 ≡ alignOf n
-  unfolding alignOf pick
-  align-low a b = rw (le-leb 1 n a, le-leb n 14 b) (shl-exact {a = 1} 1 (n - 1) 32 (lit< tt) (omega arith) ∙ one-mul _)
-
-  pub align-high : 1 ≤ n → 14 < n → 16 ≡ alignOf n
-  unfolding alignOf pick
-  align-high a b = rw (le-leb 1 n a, lt-leb n 14 b)
-
-  pub align-none : n < 1 → 16 ≡ alignOf n
-  unfolding alignOf pick
-  align-none a = rw (lt-leb 1 n a)
-
-pub ruleset aligns = (align-low, align-high, align-none)
-
--- ---- kinds
-module _ (type value auxiliary : ℕ) where
-  pub static-section : eqb value 0 ≡ true → eqb auxiliary 0 ≡ false → Section ≡ staticKind type value auxiliary
-  unfolding staticKind pick
-  static-section a b = rw (a, b)
-
-  pub static-bare : (x : SymbolKind) → eqb value 0 ≡ true → eqb auxiliary 0 ≡ true → x ≡ codeOrData type → x ≡ staticKind type value auxiliary
-  unfolding staticKind pick
-  static-bare x a b e = rw (a, b) e
-
-  pub static-value : (x : SymbolKind) → eqb value 0 ≡ false → x ≡ codeOrData type → x ≡ staticKind type value auxiliary
-  unfolding staticKind pick
-  static-value x a e = rw a e
-
-pub ruleset statics = (static-section, static-bare, static-value)
-
--- ---- places by the field's sixteen bits
-module _ (class value : ℕ) where
-  pub zero-undefined : eqb class 2 ≡ true → eqb value 0 ≡ true → Undefined ≡ zeroPlace class value
-  unfolding zeroPlace pick
-  zero-undefined a b = rw (a, b)
-
-  pub zero-value : eqb class 2 ≡ true → eqb value 0 ≡ false → Common ≡ zeroPlace class value
-  unfolding zeroPlace pick
-  zero-value a b = rw (a, b)
-
-  pub zero-class : eqb class 2 ≡ false → Common ≡ zeroPlace class value
-  unfolding zeroPlace pick
-  zero-class a = rw a
-
-  pub place-zero : (n : ℕ) (x : Place) → n ≡ 0 → x ≡ zeroPlace class value → x ≡ placeBy (toZ w16 n) class value
-  unfolding placeBy
-  place-zero n x z e = rw z e
-
-  pub place-in : (n : ℕ) → (n ≡ 0 → ⊥) → n < 0x8000 → In n ≡ placeBy (toZ w16 n) class value
-  unfolding placeBy
-  place-in zero z h = absurd (z refl)
-  place-in (suc n) z h = rw (lt-ltb (suc n) 0x8000 h)
-
-  pub place-absolute : (n : ℕ) → n ≡ 0xFFFF → Absolute ≡ placeBy (toZ w16 n) class value
-  unfolding placeBy
-  place-absolute n z = rw z
-
-  pub place-nowhere : (n : ℕ) → n ≡ 0xFFFE → eqb class 103 ≡ true → Nowhere ≡ placeBy (toZ w16 n) class value
-  unfolding placeBy pick
-  place-nowhere n z e = rw (z, e)
-
-  pub place-no-file : (n : ℕ) → n ≡ 0xFFFE → eqb class 103 ≡ false → Other ≡ placeBy (toZ w16 n) class value
-  unfolding placeBy pick
-  place-no-file n z e = rw (z, e)
-
-  pub place-other : (n : ℕ) → 0x8000 ≤ n → n < 2 ^ 16 → (n ≡ 0xFFFF → ⊥) → (n ≡ 0xFFFE → ⊥) → Other ≡ placeBy (toZ w16 n) class value
-  unfolding placeBy
-  place-other n h k a b =
-      let e : 65536 - suc n ≡ suc (suc (65533 - n)) = omega arith in
-      rw (le-ltb n 0x8000 h, e)
-
-pub ruleset places = (zero-undefined, zero-value, zero-class, place-zero, place-in, place-absolute, place-nowhere, place-no-file, place-other)
+pub ruleset flag-ways = (extended-yes, extended-no)
 
 -- ---- auxiliary records, one record further
 module _ (f : List ℕ) (h : Header) (j : ℕ) where
@@ -172,21 +82,6 @@ module _ (f : List ℕ) (h : Header) (l b b′ : List ℕ) (j : ℕ) where
   map-auxiliary left e q n d = map-next 0 e d (rw (ne-eqb (owed f h j) 0 (rw q at n)))
 
 pub ruleset auxiliary-loop = (owed-own, owed-less, owed-none, owed-end, fill-none, map-own, map-auxiliary, fill-end)
-
--- ---- permissions: a binary digit times its weight
-digit : (d k : ℕ) → d < 2 → d * k ≡ pick (eqb d 1) k 0
-unfolding pick
-digit zero k h = omega arith
-digit (suc zero) k h = omega arith
-digit (suc (suc d)) k h = absurd (omega arith)
-
-pub permissions-sum : (x : ℕ) → x / 0x40000000 % 2 + x / 0x80000000 % 2 * 2 + x / 0x20000000 % 2 * 4 ≡ permissionsBy x
-unfolding permissionsBy
-permissions-sum x =
-    let a = digit (x / 0x40000000 % 2) 1 (omega arith) in
-    let b = digit (x / 0x80000000 % 2) 2 (omega arith) in
-    let c = digit (x / 0x20000000 % 2) 4 (omega arith) in
-    omega arith
 
 -- the size in the image is small
 pub range-small : (size n r : ℕ) → size < 2 ^ 32 → n < 2 ^ 32 → r ≡ roundUp size n % 2 ^ 64 → r < 2 ^ 33
@@ -241,3 +136,13 @@ module _ (f : List ℕ) (h : Header) (i : ℕ) where
     start-plain p t a = rw (← is, t) a
 
 pub ruleset section-ways = (range-fits, range-small, end-none, end-some, records-extended, records-plain, count-extended, count-extended-none, count-plain, start-extended, start-plain)
+
+-- a number read at a place that is known by an equation
+pub moved : (l : List ℕ) (n a b k : ℕ) {r : ℕ} → r ≡ get n l (a + k) → a ≡ b → r ≡ get n l (b + k)
+moved l n a b k p q = rw (← q) p
+
+pub moved0 : (l : List ℕ) (n a b : ℕ) {r : ℕ} → r ≡ get n l a → a ≡ b → r ≡ get n l b
+moved0 l n a b p q = rw (← q) p
+
+pub moved-byte : (l : List ℕ) (a b k : ℕ) {r : ℕ} → r ≡ getD l (a + k) 0 → a ≡ b → r ≡ getD l (b + k) 0
+moved-byte l a b k p q = rw (← q) p

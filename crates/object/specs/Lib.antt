@@ -4,4 +4,3 @@ pub mod SectionLaws
 pub mod Symbol
 pub mod SymbolLaws
 pub mod Relocation
-pub mod Words

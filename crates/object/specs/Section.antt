@@ -1,56 +1,14 @@
--- What a section record says (01, "Records" and "Layout, slots and fixups"; PE/COFF, "Section Flags").
-use mathlib.Core.Bool.{Bool, _&&_, not}
+-- What a section record says (01, "Records" and "Layout, slots and fixups"; PE/COFF, "Section Table").
+use mathlib.Core.Bool.{Bool, _&&_}
 use mathlib.Core.List.{List}
-use Prim.Native.Nat.{ℕ, _+_, _-_, _/_, _%_, _^_}
-use lib.Dec.{leb, eqb}
+use Prim.Native.Nat.{ℕ, _+_, _-_}
+use lib.Dec.{eqb}
 use Rattle.util.specs.Pick.{pick}
 use Rattle.util.specs.Align.{roundUp}
 use Rattle.le.specs.Le.{get}
+use Rattle.kinds.specs.Flags.{hasFlag, LNK-NRELOC-OVFL, loadedBy, uninitializedBy, alignCode, alignOf, permissionsBy}
 use Rattle.object.specs.declared.Header.{Header}
 use Rattle.object.specs.Format.{RELOCATION-SIZE, rawSize, rawPointer, relocationPointer, relocationField, flags}
-
--- ---- the flags: a flag is a power of two, and x has it if that binary digit is set
-abbrev pub hasFlag : ℕ → ℕ → Bool
-hasFlag flag x = eqb (x / flag % 2) 1
-
-abbrev pub LNK-REMOVE : ℕ
-LNK-REMOVE = 0x800
-
-abbrev pub MEM-DISCARDABLE : ℕ
-MEM-DISCARDABLE = 0x2000000
-
-abbrev pub CNT-UNINITIALIZED : ℕ
-CNT-UNINITIALIZED = 0x80
-
-abbrev pub LNK-NRELOC-OVFL : ℕ
-LNK-NRELOC-OVFL = 0x1000000
-
-abbrev pub MEM-EXECUTE : ℕ
-MEM-EXECUTE = 0x20000000
-
-abbrev pub MEM-READ : ℕ
-MEM-READ = 0x40000000
-
-abbrev pub MEM-WRITE : ℕ
-MEM-WRITE = 0x80000000
-
--- loaded: neither removed nor discardable
-unfoldable pub loadedBy : ℕ → Bool
-loadedBy x = not (hasFlag LNK-REMOVE x) && not (hasFlag MEM-DISCARDABLE x)
-
-abbrev pub uninitializedBy : ℕ → Bool
-uninitializedBy x = hasFlag CNT-UNINITIALIZED x
-
--- bits 20 to 23 hold the alignment's code n: 1 to 14 mean 2 ^ (n - 1), the others 16
-abbrev pub alignCode : ℕ → ℕ
-alignCode x = x / 0x100000 % 16
-
-unfoldable pub alignOf : ℕ → ℕ
-alignOf n = pick (leb 1 n && leb n 14) (2 ^ (n - 1)) 16
-
--- read 1, write 2, execute 4
-unfoldable pub permissionsBy : ℕ → ℕ
-permissionsBy x = pick (hasFlag MEM-READ x) 1 0 + pick (hasFlag MEM-WRITE x) 2 0 + pick (hasFlag MEM-EXECUTE x) 4 0
 
 -- ---- of section i
 module _ (f : List ℕ) (h : Header) (i : ℕ) where

@@ -13,7 +13,6 @@ pub use format::symbol_at;
 pub use relocations::relocation_address;
 pub use relocations::relocation_symbol;
 pub use relocations::relocation_type;
-pub use relocations::type_of;
 pub use sections::file_end;
 pub use sections::file_start;
 pub use sections::is_extended;
@@ -30,7 +29,6 @@ pub use sections::relocation_start;
 pub use sections::virtual_address;
 pub use symbols::auxiliaries;
 pub use symbols::fill_primaries;
-pub use symbols::kind_number;
 pub use symbols::listed_value;
 pub use symbols::owed_after;
 pub use symbols::symbol_class;
@@ -45,39 +43,4 @@ pub struct Header {
     pub section_table: u32,
     pub symbol_table: u32,
     pub symbols: u32,
-}
-
-pub enum SymbolKind {
-    Unknown,
-    Text,
-    Data,
-    Section,
-    File,
-    Label,
-}
-
-// Where a symbol is: in a section, by its number from 1; undefined; common; absolute; nowhere, as a file's name; or a number with no meaning.
-pub enum Place {
-    In(u32),
-    Undefined,
-    Common,
-    Absolute,
-    Nowhere,
-    Other,
-}
-
-pub enum RelocationKind {
-    Absolute,
-    ImageOffset,
-    SectionOffset,
-    Relative,
-    NotCarried,
-    Unknown,
-}
-
-// The addend is in two's complement.
-pub struct RelocationType {
-    pub kind: RelocationKind,
-    pub bits: u64,
-    pub addend: u64,
 }

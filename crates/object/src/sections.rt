@@ -7,11 +7,8 @@ ghost use mathlib.Core.Path.{_≡_};
 ghost use Prim.Native.Nat.{_^_, _<_};
 ghost use Rattle.object.specs.Format.{virtualAddress, rawSize, rawPointer, relocationPointer, relocationField, flags};
 ghost use Rattle.object.specs.Section.{
-  loadedBy,
   loaded,
   uninitialized,
-  alignOf,
-  permissionsBy,
   permissions,
   fileStart,
   fileEnd,
@@ -21,21 +18,6 @@ ghost use Rattle.object.specs.Section.{
   relocationCount,
   relocationStart,
 };
-
-// The flags that are looked at.
-const LNK_REMOVE: u32 = 0x800;
-
-const MEM_DISCARDABLE: u32 = 0x2000000;
-
-const CNT_UNINITIALIZED: u32 = 0x80;
-
-const LNK_NRELOC_OVFL: u32 = 0x1000000;
-
-const MEM_EXECUTE: u32 = 0x20000000;
-
-const MEM_READ: u32 = 0x40000000;
-
-const MEM_WRITE: u32 = 0x80000000;
 
 pub fn virtual_address(f: &[u8], h: Header, i: u32) -> u32
     ensures { λ r. ⌜ r ≡ virtualAddress (now (f .entry)) h i ⌝ }
@@ -73,51 +55,24 @@ fn section_flags(f: &[u8], h: Header, i: u32) -> u32
     section_u32(f, h, i, 36)
 }
 
-fn loaded_by(x: u32) -> bool
-    ensures { λ r. ⌜ r ≡ loadedBy x ⌝ }
-{
-    let removed = x / LNK_REMOVE % 2 == 1;
-    if removed {
-        return false;
-    }
-    let discardable = x / MEM_DISCARDABLE % 2 == 1;
-    !discardable
-}
-
 // Neither removed nor discardable.
 pub fn is_loaded(f: &[u8], h: Header, i: u32) -> bool
     ensures { λ r. ⌜ r ≡ loaded (now (f .entry)) h i ⌝ }
 {
-    loaded_by(section_flags(f, h, i))
+    kinds::loaded_by(section_flags(f, h, i))
 }
 
 pub fn is_uninitialized(f: &[u8], h: Header, i: u32) -> bool
     ensures { λ r. ⌜ r ≡ uninitialized (now (f .entry)) h i ⌝ }
 {
-    section_flags(f, h, i) / CNT_UNINITIALIZED % 2 == 1
-}
-
-// The alignment that a code means: 1 to 14 are powers of two, the others 16.
-fn align_of(n: u32) -> u32
-    ensures { λ r. ⌜ r ≡ alignOf n ⌝ }
-{
-    if n < 1 {
-        return 16;
-    }
-    if n <= 14 { 1 << (n - 1) } else { 16 }
-}
-
-fn permissions_by(x: u32) -> u32
-    ensures { λ r. ⌜ r ≡ permissionsBy x ⌝ }
-{
-    x / MEM_READ % 2 + x / MEM_WRITE % 2 * 2 + x / MEM_EXECUTE % 2 * 4
+    section_flags(f, h, i) / kinds::CNT_UNINITIALIZED % 2 == 1
 }
 
 // Read 1, write 2, execute 4.
 pub fn permissions(f: &[u8], h: Header, i: u32) -> u32
     ensures { λ r. ⌜ r ≡ permissions (now (f .entry)) h i ⌝ }
 {
-    permissions_by(section_flags(f, h, i))
+    kinds::permissions_by(section_flags(f, h, i))
 }
 
 // Where its bytes start in the file; 0 for an uninitialised section.
@@ -147,7 +102,7 @@ pub fn range_length(f: &[u8], h: Header, i: u32) -> u64
     ensures { λ r. ⌜ r ≡ rangeLength (now (f .entry)) h i ⌝ }
     ensures { λ r. ⌜ r < 2 ^ 33 ⌝ }
 {
-    let align = align_of(section_flags(f, h, i) / 0x100000 % 16);
+    let align = kinds::align_of(section_flags(f, h, i) / 0x100000 % 16);
     util::align(raw_size(f, h, i) as u64, align as u64)
 }
 
@@ -155,7 +110,7 @@ pub fn range_length(f: &[u8], h: Header, i: u32) -> u64
 pub fn is_extended(f: &[u8], h: Header, i: u32) -> bool
     ensures { λ r. ⌜ r ≡ extended (now (f .entry)) h i ⌝ }
 {
-    let over = section_flags(f, h, i) / LNK_NRELOC_OVFL % 2 == 1;
+    let over = section_flags(f, h, i) / kinds::LNK_NRELOC_OVFL % 2 == 1;
     if over {
         relocation_field(f, h, i) == 65535
     } else {

@@ -1,13 +1,12 @@
 -- Mapped pages are marked by one bit each in 64-bit words, and their count is the sum of the words' ones (01, "pagemap.rs").
 use mathlib.Core.Bool.{Bool}
 use mathlib.Core.List.{List}
-use Prim.Native.Nat.{ℕ, zero, suc, _+_, _-_, _*_, _/_, _%_, _^_}
+use Prim.Native.Nat.{ℕ, _+_, _-_, _*_, _/_, _%_, _^_}
 use lib.ListN.{length}
-use lib.Bits.{bitOr}
 use lib.Count.{ones}
 use lib.Dec.{eqb}
 use Rattle.util.specs.Prefix.{sumTo}
-use Rattle.le.specs.Le.{get, le, splice}
+use Rattle.le.specs.Le.{get}
 
 -- how many pages a word marks, and how many bytes it has
 abbrev pub WORD-PAGES : ℕ
@@ -23,17 +22,6 @@ wordAt marks w = get WORD-BYTES marks (WORD-BYTES * w)
 -- page p's mark: bit p % 64 of word p / 64
 unfoldable pub marked : List ℕ → ℕ → Bool
 marked marks p = eqb (wordAt marks (p / WORD-PAGES) / 2 ^ (p % WORD-PAGES) % 2) 1
-
--- the marks with page p's set
-unfoldable pub mark : List ℕ → ℕ → List ℕ
-mark marks p =
-    splice marks (WORD-BYTES * (p / WORD-PAGES))
-    (le WORD-BYTES (bitOr (wordAt marks (p / WORD-PAGES)) (2 ^ (p % WORD-PAGES))))
-
--- with those of the n pages from p set
-unfoldable pub markPages : List ℕ → ℕ → ℕ → List ℕ
-markPages marks p zero = marks
-markPages marks p (suc n) = mark (markPages marks p n) (p + n)
 
 -- the reported page count: the ones of each word, summed
 unfoldable pub pageCount : List ℕ → ℕ

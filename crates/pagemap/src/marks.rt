@@ -3,24 +3,18 @@ ghost use mathlib.Core.Path.{_≡_};
 ghost use Prim.Native.Nat.{_+_, _*_, _/_, _%_, _<_, _^_};
 ghost use lib.Count.{ones};
 ghost use Rattle.util.specs.Prefix.{allTo};
-ghost use Rattle.pagemap.specs.Marks.{wordAt, marked, mark, markPages, pageCount};
+ghost use Rattle.pagemap.specs.Marks.{wordAt, marked, pageCount};
 
 // Pages that a word marks, and bytes that it has.
-pub(crate) const WORD_PAGES: u64 = 64;
+pub const WORD_PAGES: u64 = 64;
 
-pub(crate) const WORD_BYTES: u64 = 8;
-
-// Where the word of page p lies.
-fn word_of(p: u64) -> usize
-    ensures { λ r. ⌜ r ≡ 8 * (p / 64) ⌝ }
-{
-    (WORD_BYTES * (p / WORD_PAGES)) as usize
-}
+pub const WORD_BYTES: u64 = 8;
 
 pub(crate) fn marked(marks: &[u8], p: u64) -> bool
     ensures { λ r. ⌜ r ≡ marked (now (marks .entry)) p ⌝ }
 {
-    (le::u64_at(marks, word_of(p)) >> (p % WORD_PAGES)) % 2 == 1
+    let word = le::u64_at(marks, (WORD_BYTES * (p / WORD_PAGES)) as usize);
+    (word >> (p % WORD_PAGES)) % 2 == 1
 }
 
 // Whether each of the n pages from p is marked.
@@ -36,25 +30,6 @@ pub(crate) fn all_marked(marks: &[u8], p: u64, n: u64) -> bool
         k += 1;
     }
     true
-}
-
-fn mark(marks: &mut [u8], p: u64)
-    ensures { λ _. ⌜ now (marks .exit) ≡ mark (now (marks .entry)) p ⌝ }
-{
-    let at = word_of(p);
-    let word = le::u64_at(marks, at);
-    le::put_u64(marks, at, word | (1 << (p % WORD_PAGES)));
-}
-
-pub(crate) fn mark_pages(marks: &mut [u8], p: u64, n: u64)
-    requires { ⌜ p + n < 2 ^ 64 ⌝ }
-    ensures { λ _. ⌜ now (marks .exit) ≡ markPages (now (marks .entry)) p n ⌝ }
-{
-    let mut k: u64 = 0;
-    while k < n {
-        mark(marks, p + k);
-        k += 1;
-    }
 }
 
 // How many pages word w marks.

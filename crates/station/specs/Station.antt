@@ -13,8 +13,8 @@ use Rattle.object.specs.Format.{headerOf}
 use Rattle.survey.specs.declared.answer.Survey.{Survey}
 use Rattle.survey.specs.declared.answer.Survey.the-variants as survey
 use Rattle.survey.specs.Survey.{firstFailed, checks, counts}
-use Rattle.tables.specs.Words.{wordBytes}
-use Rattle.tables.specs.Results.{COUNTS-BYTES, countsWords, PROGRESS-BYTES, progressWords}
+use Rattle.words.specs.Words.{wordBytes}
+use Rattle.results.specs.Results.{COUNTS-BYTES, countsWords, PROGRESS-BYTES, progressWords}
 use Rattle.load.specs.Load.{Storage, loadChecks, stored}
 use Rattle.patch.specs.declared.answer.Patch.{Patch}
 use Rattle.patch.specs.declared.answer.Patch.the-variants as patch

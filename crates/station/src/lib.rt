@@ -17,7 +17,7 @@ fn tell_counts(answer: Survey, out: &mut [u8]) -> u64
 {
     match answer {
         Survey::Accepted(c) => {
-            tables::write_counts(c, out);
+            results::write_counts(c, out);
             0
         }
         Survey::Refused(n) => n,
@@ -29,7 +29,7 @@ fn tell_progress(answer: Patch, out: &mut [u8]) -> u64
 {
     match answer {
         Patch::Applied(p) => {
-            tables::write_progress(p.position, p.done, out);
+            results::write_progress(p.position, p.done, out);
             0
         }
         Patch::Refused(n) => n,

@@ -17,8 +17,8 @@ use Rattle.arch.specs.Machine.{archOf}
 use Rattle.le.specs.Le.{splice, part, part-front, filled}
 use Rattle.checks.specs.Checks.{pagesOk, relocationTotal}
 use Rattle.object.specs.declared.Header.{Header}
-use Rattle.object.specs.declared.Place.{Place}
-use Rattle.object.specs.declared.Place.the-variants.{In, Undefined, Common, Absolute, Nowhere, Other}
+use Rattle.kinds.specs.declared.Place.{Place}
+use Rattle.kinds.specs.declared.Place.the-variants.{In, Undefined, Common, Absolute, Nowhere, Other}
 use Rattle.object.specs.Format.{headerOf}
 use Rattle.object.specs.Symbol.{primaries, symbolPlace, listedValue}
 use Rattle.layout.specs.Layout.{undefStart, mappedPages, tableRecords}
@@ -231,3 +231,9 @@ module _ (f : List ℕ) (h : Header) (code : ℕ) where
   survey-no q e z = rw (← q) (refused-by f h code e z)
 
 pub ruleset whole = (fits-is, survey-yes, survey-no)
+
+-- ---- the answer by a tally and counts that are known by equations
+pub targets-by : (f : List ℕ) (h : Header) (map homes : List ℕ) (n m : ℕ) (t u : Tally) (c : Counts) {r : Survey}
+    → r ≡ answerBy (firstFailed (targetChecks t)) c → c ≡ countsBy f h map homes n t → t ≡ u → n ≡ m
+    → r ≡ answerBy (firstFailed (targetChecks u)) (countsBy f h map homes m u)
+targets-by f h map homes n m t u c p q e k = rw (← e, ← k, ← q) p

@@ -10,10 +10,10 @@ use lib.ListN.{length, getD}
 use borrow.Author.Tests.{leb-true, not-false, lt-ltb, ne-eqb, eqb-true}
 use Rattle.util.specs.Pick.{pick, and-both}
 use Rattle.object.specs.declared.Header.{Header}
-use Rattle.object.specs.declared.SymbolKind.{SymbolKind}
-use Rattle.object.specs.declared.SymbolKind.the-variants as kinds
-use Rattle.object.specs.declared.Place.{Place}
-use Rattle.object.specs.declared.Place.the-variants as places
+use Rattle.kinds.specs.declared.SymbolKind.{SymbolKind}
+use Rattle.kinds.specs.declared.SymbolKind.the-variants as kinds
+use Rattle.kinds.specs.declared.Place.{Place}
+use Rattle.kinds.specs.declared.Place.the-variants as places
 use Rattle.object.specs.Format.{headerOf}
 use Rattle.object.specs.Section.{loaded, relocationCount}
 use Rattle.object.specs.Symbol.{kind, symbolPlace}
@@ -31,12 +31,12 @@ use Rattle.externs.specs.Slot.{slotOf}
 use Rattle.externs.specs.SlotLaws.{Slot}
 use Rattle.externs.specs.ExternLaws.{externs-slot}
 use Rattle.fixups.specs.declared.Fix.{Fix}
-use Rattle.fixups.specs.declared.Skip.{Skip}
-use Rattle.fixups.specs.declared.Target.{Target}
-use Rattle.fixups.specs.declared.Target.the-variants as targets
+use Rattle.targets.specs.declared.Skip.{Skip}
+use Rattle.targets.specs.declared.Target.{Target}
+use Rattle.targets.specs.declared.Target.the-variants as targets
 use Rattle.fixups.specs.declared.Outcome.{Outcome}
 use Rattle.fixups.specs.declared.Outcome.the-variants.{Passed, Skipped, TurnedDown, Fixup}
-use Rattle.fixups.specs.Target.{slotTarget, slotFor, dataTarget, targetBy, targetOf}
+use Rattle.targets.specs.Target.{slotTarget, slotFor, dataTarget, targetBy, targetOf}
 use Rattle.fixups.specs.Tally.{isPassed, isRefused, isMapped, isOutside, howMany, tallyOf}
 use Rattle.fixups.specs.Lists.{fixList, skipList}
 use Rattle.fixups.specs.ListLaws.{Stands, fixup-listed, skip-listed}

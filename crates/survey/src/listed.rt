@@ -1,6 +1,6 @@
 // Which symbols are listed, from get_coff_symbols.
+use kinds::Place;
 use object::Header;
-use object::Place;
 ghost use mathlib.Core.Path.{_≡_};
 ghost use Prim.Native.Nat.{_-_, _+_, _<_, _^_};
 ghost use Rattle.survey.specs.Listed.{cellOf, listed, listedOffset, listedTotal};
@@ -9,7 +9,7 @@ pub fn cell_of(homes: &[u32], p: Place) -> u32
     ensures { λ r. ⌜ r ≡ cellOf (now (homes .entry)) p ⌝ }
 {
     match p {
-        Place::In(n) => fixups::cell_of_number(homes, n),
+        Place::In(n) => targets::cell_of_number(homes, n),
         Place::Undefined => 0,
         Place::Common => 0,
         Place::Absolute => 0,

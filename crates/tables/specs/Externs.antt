@@ -5,7 +5,7 @@ use lib.ListN.{getD}
 use Rattle.object.specs.declared.Header.{Header}
 use Rattle.names.specs.Name.{symbolName}
 use Rattle.layout.specs.Layout.{SLOT-SIZE}
-use Rattle.tables.specs.Words.{wordBytes, nameStart, nameLength}
+use Rattle.words.specs.Words.{wordBytes, nameStart, nameLength}
 
 -- a record is four words: slot address, symbol number, name start, name length
 abbrev pub EXTERN-BYTES : ℕ

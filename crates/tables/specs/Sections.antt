@@ -1,13 +1,13 @@
 -- The section table (01, "Layout, slots and fixups"): a record for each loaded section, in file order, and UNDEF's behind them.
 use mathlib.Core.List.{List, [], _∷_, _++_}
-use Prim.Native.Nat.{ℕ, zero, suc, _+_}
+use Prim.Native.Nat.{ℕ, _+_}
 use lib.ListN.{getD}
-use Rattle.util.specs.Pick.{pick}
 use Rattle.arch.specs.Page.{PAGE-SIZE}
 use Rattle.object.specs.declared.Header.{Header}
 use Rattle.object.specs.Section.{loaded, fileStart, fileEnd, rangeLength, permissions}
 use Rattle.names.specs.Name.{sectionName}
-use Rattle.tables.specs.Words.{wordBytes, nameStart, nameLength}
+use Rattle.words.specs.Words.{wordBytes, nameStart, nameLength}
+use Rattle.words.specs.Picked.{picked}
 
 -- a record is eight words: start, end, file start, file end, permissions, name start, name length, section number from 1
 abbrev pub SECTION-BYTES : ℕ
@@ -17,27 +17,21 @@ abbrev pub READ : ℕ
 READ = 1
 
 -- `starts` keeps each section's start
-module _ (f : List ℕ) (h : Header) (base : ℕ) (starts : List ℕ) where
-  unfoldable pub sectionWords : ℕ → List ℕ
-  sectionWords i =
-      (base + getD starts i 0)
-      ∷ (base + getD starts i 0 + rangeLength f h i)
-      ∷ fileStart f h i
-      ∷ fileEnd f h i
-      ∷ permissions f h i
-      ∷ nameStart (sectionName f h i)
-      ∷ nameLength (sectionName f h i)
-      ∷ (i + 1)
-      ∷ []
-
-  -- the bytes of the records of the sections below i
-  unfoldable pub sectionRecords : ℕ → List ℕ
-  sectionRecords zero = []
-  sectionRecords (suc i) = pick (loaded f h i) (sectionRecords i ++ wordBytes (sectionWords i)) (sectionRecords i)
+unfoldable pub sectionWords : List ℕ → Header → ℕ → List ℕ → ℕ → List ℕ
+sectionWords f h base starts i =
+    (base + getD starts i 0)
+    ∷ (base + getD starts i 0 + rangeLength f h i)
+    ∷ fileStart f h i
+    ∷ fileEnd f h i
+    ∷ permissions f h i
+    ∷ nameStart (sectionName f h i)
+    ∷ nameLength (sectionName f h i)
+    ∷ (i + 1)
+    ∷ []
 
 -- UNDEF: one page, readable, no bytes and no name in the file, no section's number
 abbrev pub undefWords : ℕ → ℕ → List ℕ
 undefWords base undef = (base + undef) ∷ (base + undef + PAGE-SIZE) ∷ 0 ∷ 0 ∷ READ ∷ 0 ∷ 0 ∷ 0 ∷ []
 
 abbrev pub sectionTable : List ℕ → Header → ℕ → List ℕ → ℕ → List ℕ
-sectionTable f h base starts undef = sectionRecords f h base starts (h .sections) ++ wordBytes (undefWords base undef)
+sectionTable f h base starts undef = picked (loaded f h) (sectionWords f h base starts) (h .sections) ++ wordBytes (undefWords base undef)

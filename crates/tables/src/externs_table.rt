@@ -1,10 +1,9 @@
 // The table of extern names.
-use crate::words;
 use object::Header;
 ghost use mathlib.Core.Path.{_≡_};
 ghost use Prim.Native.Nat.{_*_};
 ghost use Rattle.le.specs.Le.{splice};
-ghost use Rattle.tables.specs.Words.{wordBytes};
+ghost use Rattle.words.specs.Words.{wordBytes};
 ghost use Rattle.tables.specs.Externs.{externWords, externTable};
 
 fn put_extern(f: &[u8], h: Header, base: u32, undef: u32, set: &[u32], e: u32, b: &mut [u8])
@@ -19,7 +18,7 @@ fn put_extern(f: &[u8], h: Header, base: u32, undef: u32, set: &[u32], e: u32, b
         words::name_start(name),
         words::name_length(name),
     ];
-    words::put_words(b, 32 * (e as usize), &ws);
+    words::put(b, 32 * (e as usize), &ws);
 }
 
 // The first n names of `set`.

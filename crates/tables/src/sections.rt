@@ -1,12 +1,10 @@
 // The section table.
-use crate::words;
 use arch::PAGE_SIZE;
 use object::Header;
 ghost use mathlib.Core.Path.{_≡_};
-ghost use Prim.Native.Nat.{_*_, _≤_};
+ghost use Prim.Native.Nat.{_*_};
 ghost use Rattle.le.specs.Le.{splice};
-ghost use Rattle.object.specs.Section.{loaded};
-ghost use Rattle.tables.specs.Words.{wordBytes, Stepped};
+ghost use Rattle.words.specs.Words.{wordBytes};
 ghost use Rattle.tables.specs.Sections.{sectionWords, undefWords, sectionTable};
 
 // Section i's record, at place n of the table.
@@ -26,7 +24,7 @@ fn put_section(f: &[u8], h: Header, base: u32, starts: &[u32], i: u32, n: u32, b
         words::name_length(name),
         i as u64 + 1,
     ];
-    words::put_words(b, 64 * (n as usize), &ws);
+    words::put(b, 64 * (n as usize), &ws);
 }
 
 fn put_undef(base: u32, undef: u32, n: u32, b: &mut [u8])
@@ -34,20 +32,7 @@ fn put_undef(base: u32, undef: u32, n: u32, b: &mut [u8])
 {
     let start = base as u64 + undef as u64;
     let ws = [start, start + PAGE_SIZE, 0, 0, 1, 0, 0, 0];
-    words::put_words(b, 64 * (n as usize), &ws);
-}
-
-// One section further: how many records there are then.
-fn step(f: &[u8], h: Header, base: u32, starts: &[u32], i: u32, n: u32, b: &mut [u8]) -> u32
-    requires { ⌜ n ≤ 65536 ⌝ }
-    ensures { λ r. ⌜ Stepped (loaded (now (f .entry)) h i) 64 (wordBytes (sectionWords (now (f .entry)) h base (now (starts .entry)) i)) n (now (b .entry)) (now (b .exit)) r ⌝ }
-{
-    if object::is_loaded(f, h, i) {
-        put_section(f, h, base, starts, i, n, b);
-        n + 1
-    } else {
-        n
-    }
+    words::put(b, 64 * (n as usize), &ws);
 }
 
 // A record for each loaded section, and UNDEF's.
@@ -58,8 +43,13 @@ pub fn write_sections(f: &[u8], h: Header, base: u32, starts: &[u32], undef: u32
     let mut n: u32 = 0;
     let mut i: u32 = 0;
     while i < m {
-        n = step(f, h, base, starts, i, n, b);
-        i += 1;
+        if object::is_loaded(f, h, i) {
+            put_section(f, h, base, starts, i, n, b);
+            n += 1;
+            i += 1;
+        } else {
+            i += 1;
+        }
     }
     put_undef(base, undef, n, b);
 }

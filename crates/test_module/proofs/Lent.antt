@@ -40,9 +40,9 @@ use denote.Triple.Entry.{Vals, onEntry}
 use denote.Triple.Spec.{Meets, tripleOf}
 use denote.Triple.Walked.{says, Stays, stay-none, walkOf, goes-none, Walks, ends-at, walked, walk-meets}
 use denote.Exit.{yes}
-use Rattle.module.specs.declared.Section.{Section}
-use Rattle.module.proofs.Section as T
-use Rattle.module.proofs.Section.Laws as T′
+use Rattle.section.specs.declared.Section.{Section}
+use Rattle.section.proofs.Section as T
+use Rattle.section.proofs.Section.Laws as T′
 use Rattle.module.proofs.Word.{Word, makes}
 
 abbrev Arr : RattleType

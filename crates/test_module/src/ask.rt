@@ -1,6 +1,6 @@
 // The questions to the section table, on a table by value.
 ghost use mathlib.Core.Path.{_≡_};
-ghost use Rattle.module.specs.Section.{
+ghost use Rattle.module.specs.Questions.{
   filled,
   fileOffset,
   virtualAddress,
@@ -11,12 +11,12 @@ ghost use Rattle.module.specs.Section.{
   probeVa,
   probeRva,
 };
+use answers::AddressAnswer;
 use arch::VA;
-use module::AddressAnswer;
-use module::OffsetProbe;
-use module::Probe;
-use module::Section;
 use refusal::Number;
+use section::OffsetProbe;
+use section::Probe;
+use section::Section;
 
 // A record with no range, no bytes in the file and an empty name.
 fn none() -> Section {

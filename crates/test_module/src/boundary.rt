@@ -4,9 +4,9 @@ use crate::ask;
 use crate::say;
 use arch::RVA;
 use arch::VA;
-use module::OffsetProbe;
-use module::Probe;
-use module::Section;
+use section::OffsetProbe;
+use section::Probe;
+use section::Section;
 
 // Word k of section record i.
 pub fn word(table: &[u8], i: u16, k: u8) -> u64 {

@@ -1,10 +1,10 @@
 // Questions to the lists of symbols and of extern names.
 use crate::say;
 use arch::VA;
-use module::Extern;
-use module::ExternAnswer;
-use module::Symbol;
-use module::SymbolAnswer;
+use symbols::Extern;
+use symbols::ExternAnswer;
+use symbols::Symbol;
+use symbols::SymbolAnswer;
 
 pub fn symbols(f: &[u8], table: &[u8], n: u16) {
     let mut k: u16 = 0;
@@ -13,17 +13,17 @@ pub fn symbols(f: &[u8], table: &[u8], n: u16) {
         k += 1;
     }
     lines::text(b"symbol");
-    symbol_answer(table, module::symbol_entry(table, n as usize), n);
+    symbol_answer(table, symbols::symbol_entry(table, n as usize), n);
     lines::line(b"");
 }
 
 // Its name, the last record of that name, its address, and the first record and the next one there.
 fn symbol(f: &[u8], table: &[u8], k: u16) {
-    let name = module::symbol_name_of(f, table, k as usize);
+    let name = symbols::symbol_name_of(f, table, k as usize);
     lines::text(b"symbol ");
     lines::text(name);
-    say::number(module::symbol_named(f, table, name));
-    symbol_answer(table, module::symbol_entry(table, k as usize), k);
+    say::number(symbols::symbol_named(f, table, name));
+    symbol_answer(table, symbols::symbol_entry(table, k as usize), k);
     lines::line(b"");
 }
 
@@ -36,9 +36,9 @@ fn symbol_answer(table: &[u8], a: SymbolAnswer, k: u16) {
 
 fn symbol_at(table: &[u8], s: Symbol, k: u16) {
     lines::address(b" ", s.address.0);
-    say::number(module::symbol_at(table, s.address, 0));
-    say::number(module::symbol_at(table, s.address, k as usize + 1));
-    say::number(module::symbol_at(table, VA(s.address.0 / 2), 0));
+    say::number(symbols::symbol_at(table, s.address, 0));
+    say::number(symbols::symbol_at(table, s.address, k as usize + 1));
+    say::number(symbols::symbol_at(table, VA(s.address.0 / 2), 0));
 }
 
 pub fn externs(f: &[u8], table: &[u8], n: u16) {
@@ -48,17 +48,17 @@ pub fn externs(f: &[u8], table: &[u8], n: u16) {
         k += 1;
     }
     lines::text(b"extern");
-    extern_answer(module::extern_entry(table, n as usize));
+    extern_answer(symbols::extern_entry(table, n as usize));
     lines::line(b"");
 }
 
 // Its name, the record of that name, and its address.
 fn extern_name(f: &[u8], table: &[u8], k: u16) {
-    let name = module::extern_name_of(f, table, k as usize);
+    let name = symbols::extern_name_of(f, table, k as usize);
     lines::text(b"extern ");
     lines::text(name);
-    say::number(module::extern_named(f, table, name));
-    extern_answer(module::extern_entry(table, k as usize));
+    say::number(symbols::extern_named(f, table, name));
+    extern_answer(symbols::extern_entry(table, k as usize));
     lines::line(b"");
 }
 

@@ -4,7 +4,7 @@
 mod ask;
 mod boundary;
 mod lists;
-mod pointers;
+mod reading;
 mod say;
 
 use arch::VA;
@@ -93,5 +93,5 @@ fn read(f: &[u8], c: Counts, image: &[u8], marks: &[u8], sections: &[u8]) {
     let arch = survey::machine_of(object::read_header(f));
     let n = lines::few(c.sections);
     let table = le::part(sections, 0, n as usize * 64);
-    pointers::all(image, marks, arch, table, n, lines::few(c.pages));
+    reading::all(image, marks, arch, table, n, lines::few(c.pages));
 }

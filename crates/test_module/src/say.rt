@@ -1,6 +1,6 @@
 // Answers on standard output.
-use module::AddressAnswer;
-use module::OffsetAnswer;
+use answers::AddressAnswer;
+use answers::OffsetAnswer;
 use refusal::Number;
 
 pub fn refused(n: u64) {

@@ -1,4 +1,5 @@
 use borrow.Author.Needs.{needs}
+use Rattle.checks.proofs.Laws.{good-by}
 use Rattle.checks.proofs.name_ok.Statement.{statement}
 use Rattle.checks.proofs.name_ok.Tie as tie
 
@@ -8,4 +9,4 @@ name-ok-spec =
     (tie.spec
     (λ c. search needs)
     (λ c. search needs)
-    (λ c. cc))
+    (λ c. search (needs, good-by)))

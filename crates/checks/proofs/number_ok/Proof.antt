@@ -1,4 +1,5 @@
 use borrow.Author.Needs.{needs}
+use Rattle.checks.proofs.Laws.{within-by}
 use Rattle.checks.proofs.number_ok.Statement.{statement}
 use Rattle.checks.proofs.number_ok.Tie as tie
 
@@ -9,4 +10,4 @@ number-ok-spec =
     (λ c. search needs)
     (λ c. search needs)
     (λ c. search needs)
-    (λ c. cc))
+    (λ c. search (needs, within-by)))

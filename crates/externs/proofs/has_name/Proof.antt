@@ -1,4 +1,5 @@
 use borrow.Author.Needs.{needs}
+use Rattle.externs.proofs.Laws.{same-by}
 use Rattle.externs.proofs.has_name.Statement.{statement}
 use Rattle.externs.proofs.has_name.Tie as tie
 
@@ -8,4 +9,4 @@ has-name-spec =
     (tie.spec
     (λ c. search needs)
     (λ c. search needs)
-    (λ c. cc))
+    (λ c. search (needs, same-by)))

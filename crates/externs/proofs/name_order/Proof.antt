@@ -1,4 +1,5 @@
 use borrow.Author.Needs.{needs}
+use Rattle.externs.proofs.Laws.{order-by}
 use Rattle.externs.proofs.name_order.Statement.{statement}
 use Rattle.externs.proofs.name_order.Tie as tie
 
@@ -8,4 +9,4 @@ name-order-spec =
     (tie.spec
     (λ c. search needs)
     (λ c. search needs)
-    (λ c. cc))
+    (λ c. search (needs, order-by)))

@@ -1,4 +1,5 @@
 use borrow.Author.Needs.{needs}
+use Rattle.image.proofs.Laws.{mark-by}
 use Rattle.le.specs.Le.{splice-long}
 use Rattle.image.proofs.put_mark.Statement.{statement}
 use Rattle.image.proofs.put_mark.Tie as tie
@@ -11,4 +12,4 @@ put-mark-spec =
     (λ c. search (needs, splice-long))
     (λ c. search (needs, splice-long))
     (λ c. search (needs, splice-long))
-    (λ c. cc))
+    (λ c. search (needs, mark-by)))

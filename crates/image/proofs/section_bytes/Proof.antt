@@ -1,5 +1,5 @@
 use borrow.Author.Needs.{needs}
-use Rattle.image.proofs.Laws.{range-up}
+use Rattle.image.proofs.Laws.{range-up, bytes-by}
 use Rattle.image.proofs.section_bytes.Statement.{statement}
 use Rattle.image.proofs.section_bytes.Tie as tie
 
@@ -13,4 +13,4 @@ section-bytes-spec =
     (λ c. search (needs, range-up))
     (λ c. search (needs, range-up))
     (λ c. search (needs, range-up))
-    (λ c. cc))
+    (λ c. search (needs, bytes-by)))

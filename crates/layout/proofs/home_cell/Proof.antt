@@ -1,4 +1,5 @@
 use borrow.Author.Needs.{needs}
+use Rattle.layout.proofs.Laws.{cell-by}
 use Rattle.layout.proofs.home_cell.Statement.{statement}
 use Rattle.layout.proofs.home_cell.Tie as tie
 
@@ -8,4 +9,4 @@ home-cell-spec =
     (tie.spec
     (λ c. search needs)
     (λ c. search needs)
-    (λ c. cc))
+    (λ c. search (needs, cell-by)))

@@ -1,4 +1,5 @@
 use borrow.Author.Needs.{needs}
+use Rattle.layout.proofs.Laws.{record-by}
 use Rattle.layout.proofs.home_record.Statement.{statement}
 use Rattle.layout.proofs.home_record.Tie as tie
 
@@ -8,4 +9,4 @@ home-record-spec =
     (tie.spec
     (λ c. search needs)
     (λ c. search needs)
-    (λ c. cc))
+    (λ c. search (needs, record-by)))

@@ -46,10 +46,12 @@ use denote.Triple.Spec.{Meets, tripleOf}
 use denote.Triple.Table.{entered, cited}
 use denote.Triple.Walked.{says, Stays, stay-slice, stay-none-slice, walkOf, goes-slice, goes-none-slice, Walks, ends-at, walked, walk-meets}
 use denote.Exit.{yes}
-use Rattle.module.specs.declared.Section.{Section}
-use Rattle.module.specs.Section.{blank, sectionAt, fillTo, length-fillTo, fillTo-zero, fillTo-next}
-use Rattle.module.proofs.Section as T
-use Rattle.module.proofs.Section.Laws as T′
+use Rattle.section.specs.declared.Section.{Section}
+use Rattle.module.specs.Questions.{blank, sectionAt, fillTo}
+use Rattle.module.specs.QuestionLaws.{length-fillTo}
+use Rattle.module.proofs.Laws.{fillTo-zero, fillTo-next}
+use Rattle.section.proofs.Section as T
+use Rattle.section.proofs.Section.Laws as T′
 use Rattle.module.proofs.to_fill as counted
 use Rattle.module.proofs.to_fill.Symbol as counted-def
 use Rattle.module.proofs.to_fill.Symbol.{name as #counted}

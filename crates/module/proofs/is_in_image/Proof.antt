@@ -32,11 +32,11 @@ use denote.Triple.Spec.{Meets, tripleOf}
 use denote.Triple.Table.{entered, cited}
 use denote.Triple.Walked.{says, Stays, stay-none, stay-none-slice, walkOf, goes-none, goes-none-slice, Walks, ends-at, walked, walk-meets}
 use denote.Exit.{yes}
-use Rattle.module.specs.declared.Section.{Section}
+use Rattle.section.specs.declared.Section.{Section}
 use Rattle.arch.specs.declared.VA.{VA}
 use Rattle.refusal.specs.declared.Number.{Number}
-use Rattle.module.specs.Section.{fileOffset, isBacked}
-use Rattle.module.proofs.Section as T
+use Rattle.module.specs.Questions.{fileOffset, isBacked}
+use Rattle.section.proofs.Section as T
 use Rattle.module.proofs.Word.{makes}
 use Rattle.module.proofs.Words.{va-word, number-word, bool-word}
 use Rattle.module.proofs.file_offset as find

@@ -1,4 +1,5 @@
 use borrow.Author.Needs.{needs}
+use Rattle.module.proofs.Laws.{section-is}
 use Rattle.module.proofs.section_at.Statement.{statement}
 use Rattle.module.proofs.section_at.Tie as tie
 
@@ -14,4 +15,4 @@ section-at-spec =
     (λ c κs. search needs)
     (λ c κs. search needs)
     (λ c κs. search needs)
-    (λ c. cc))
+    (λ c. search (needs, section-is)))

@@ -1,5 +1,5 @@
 use borrow.Author.Needs.{needs}
-use Rattle.module.specs.Section.{section-word-is}
+use Rattle.module.proofs.Laws.{section-word-is}
 use Rattle.module.proofs.section_word.Statement.{statement}
 use Rattle.module.proofs.section_word.Tie as tie
 

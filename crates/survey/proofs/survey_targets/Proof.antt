@@ -1,4 +1,5 @@
 use borrow.Author.Needs.{needs}
+use Rattle.survey.proofs.Laws.{targets-by}
 use Rattle.survey.proofs.survey_targets.Statement.{statement}
 use Rattle.survey.proofs.survey_targets.Tie as tie
 
@@ -9,4 +10,4 @@ survey-targets-spec =
     (λ c. search needs)
     (λ c. search needs)
     (λ c. search needs)
-    (λ c. cc))
+    (λ c. search (needs, targets-by)))

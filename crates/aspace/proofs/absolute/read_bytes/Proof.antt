@@ -1,6 +1,5 @@
 use borrow.Author.Needs.{needs}
-use Rattle.refusal.specs.Refusal.{answers}
-use Rattle.aspace.proofs.Laws.{copied, aboves}
+use Rattle.aspace.proofs.Laws.{by-address}
 use Rattle.aspace.proofs.absolute.read_bytes.Statement.{statement}
 use Rattle.aspace.proofs.absolute.read_bytes.Tie as tie
 
@@ -8,10 +7,7 @@ pub read-bytes-spec : {M : Type 1} → statement M
 read-bytes-spec =
     tie.close
     (tie.spec
-    (λ c. search (needs, answers, copied, aboves))
-    (λ c. search (needs, answers, copied, aboves))
-    (λ c. search (needs, answers, copied, aboves))
-    (λ c. search (needs, answers, copied, aboves))
-    (λ c. search (needs, answers, copied, aboves))
-    (λ c. search (needs, answers, copied, aboves))
-    (λ c. search (needs, answers, copied, aboves)))
+    (λ c. search (needs, by-address))
+    (λ c. search (needs, by-address))
+    (λ c. search (needs, by-address))
+    (λ c. search (needs, by-address)))

@@ -1,5 +1,5 @@
 use borrow.Author.Needs.{needs}
-use Rattle.aspace.proofs.Laws.{reaches}
+use Rattle.aspace.proofs.Laws.{by-address}
 use Rattle.aspace.proofs.absolute.span_at.Statement.{statement}
 use Rattle.aspace.proofs.absolute.span_at.Tie as tie
 
@@ -7,8 +7,6 @@ pub span-at-spec : {M : Type 1} → statement M
 span-at-spec =
     tie.close
     (tie.spec
-    (λ c. search (needs, reaches))
-    (λ c. search (needs, reaches))
-    (λ c. search (needs, reaches))
-    (λ c. search (needs, reaches))
-    (λ c. search (needs, reaches)))
+    (λ c. search (needs, by-address))
+    (λ c. search (needs, by-address))
+    (λ c. search (needs, by-address)))

@@ -8,9 +8,9 @@ pub read-bytes-spec : {M : Type 1} → statement M
 read-bytes-spec =
     tie.close
     (tie.spec
+    (λ c. search (needs, answers))
+    (λ c. search (needs, answers))
+    (λ c. search (needs, answers))
     (λ c. search (needs, answers, copied))
     (λ c. search (needs, answers, copied))
-    (λ c. search (needs, answers, copied))
-    (λ c. search (needs, answers, copied))
-    (λ c. search (needs, answers, copied))
-    (λ c. search (needs, answers, copied)))
+    (λ c. search (needs, answers)))

@@ -1,5 +1,5 @@
 use borrow.Author.Needs.{needs}
-use Rattle.aspace.proofs.Laws.{fars}
+use Rattle.aspace.proofs.Laws.{by-start}
 use Rattle.aspace.proofs.sliced.read_bytes.Statement.{statement}
 use Rattle.aspace.proofs.sliced.read_bytes.Tie as tie
 
@@ -7,11 +7,7 @@ pub read-bytes-spec : {M : Type 1} → statement M
 read-bytes-spec =
     tie.close
     (tie.spec
-    (λ c. search (needs, fars))
-    (λ c. search (needs, fars))
-    (λ c. search (needs, fars))
-    (λ c. search (needs, fars))
-    (λ c. search (needs, fars))
-    (λ c. search (needs, fars))
-    (λ c. search (needs, fars))
-    (λ c. search (needs, fars)))
+    (λ c. search (needs, by-start))
+    (λ c. search (needs, by-start))
+    (λ c. search (needs, by-start))
+    (λ c. search (needs, by-start)))

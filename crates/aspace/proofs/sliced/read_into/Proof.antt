@@ -1,5 +1,5 @@
 use borrow.Author.Needs.{needs}
-use Rattle.aspace.proofs.Laws.{fars}
+use Rattle.aspace.proofs.Laws.{by-start}
 use Rattle.aspace.proofs.sliced.read_into.Statement.{statement}
 use Rattle.aspace.proofs.sliced.read_into.Tie as tie
 
@@ -7,10 +7,7 @@ pub read-into-spec : {M : Type 1} → statement M
 read-into-spec =
     tie.close
     (tie.spec
-    (λ c. search (needs, fars))
-    (λ c. search (needs, fars))
-    (λ c. search (needs, fars))
-    (λ c. search (needs, fars))
-    (λ c. search (needs, fars))
-    (λ c. search (needs, fars))
-    (λ c. search (needs, fars)))
+    (λ c. search (needs, by-start))
+    (λ c. search (needs, by-start))
+    (λ c. search (needs, by-start))
+    (λ c. search (needs, by-start)))

@@ -1,4 +1,5 @@
 use borrow.Author.Needs.{needs}
+use Rattle.names.proofs.Laws.{section-name-by}
 use Rattle.names.proofs.place.section_name.Statement.{statement}
 use Rattle.names.proofs.place.section_name.Tie as tie
 
@@ -9,4 +10,4 @@ section-name-spec =
     (λ c. search needs)
     (λ c. search needs)
     (λ c. search needs)
-    (λ c. cc))
+    (λ c. search (needs, section-name-by)))

@@ -1,4 +1,5 @@
 use borrow.Author.Needs.{needs}
+use Rattle.names.proofs.Laws.{symbol-name-by}
 use Rattle.names.proofs.place.symbol_name.Statement.{statement}
 use Rattle.names.proofs.place.symbol_name.Tie as tie
 
@@ -9,4 +10,4 @@ symbol-name-spec =
     (λ c. search needs)
     (λ c. search needs)
     (λ c. search needs)
-    (λ c. cc))
+    (λ c. search (needs, symbol-name-by)))

@@ -1,4 +1,5 @@
 use borrow.Author.Needs.{needs}
+use Rattle.names.proofs.Laws.{symbol-text-by}
 use Rattle.names.proofs.place.symbol_text.Statement.{statement}
 use Rattle.names.proofs.place.symbol_text.Tie as tie
 
@@ -9,4 +10,4 @@ symbol-text-spec =
     (λ c. search needs)
     (λ c. search needs)
     (λ c. search needs)
-    (λ c. cc))
+    (λ c. search (needs, symbol-text-by)))

@@ -9,4 +9,4 @@ good-section-name-spec =
     tie.close
     (tie.spec
     (λ c. search needs)
-    (λ c. cc))
+    (λ c. c .all-visible .ensures))

@@ -1,4 +1,5 @@
 use borrow.Author.Needs.{needs}
+use Rattle.object.proofs.Laws.{moved}
 use Rattle.object.proofs.format.section_u32.Statement.{statement}
 use Rattle.object.proofs.format.section_u32.Tie as tie
 
@@ -9,4 +10,4 @@ section-u32-spec =
     (λ c. search needs)
     (λ c. search needs)
     (λ c. search needs)
-    (λ c. cc))
+    (λ c. search (needs, moved)))

@@ -1,4 +1,5 @@
 use borrow.Author.Needs.{needs}
+use Rattle.object.proofs.Laws.{moved0}
 use Rattle.object.proofs.relocations.relocation_address.Statement.{statement}
 use Rattle.object.proofs.relocations.relocation_address.Tie as tie
 
@@ -8,4 +9,4 @@ relocation-address-spec =
     (tie.spec
     (λ c. search needs)
     (λ c. search needs)
-    (λ c. cc))
+    (λ c. search (needs, moved0)))

@@ -1,4 +1,5 @@
 use borrow.Author.Needs.{needs}
+use Rattle.object.proofs.Laws.{moved}
 use Rattle.object.proofs.relocations.relocation_symbol.Statement.{statement}
 use Rattle.object.proofs.relocations.relocation_symbol.Tie as tie
 
@@ -9,4 +10,4 @@ relocation-symbol-spec =
     (λ c. search needs)
     (λ c. search needs)
     (λ c. search needs)
-    (λ c. cc))
+    (λ c. search (needs, moved)))

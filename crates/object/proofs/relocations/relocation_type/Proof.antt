@@ -1,4 +1,5 @@
 use borrow.Author.Needs.{needs}
+use Rattle.object.proofs.Laws.{moved}
 use Rattle.object.proofs.relocations.relocation_type.Statement.{statement}
 use Rattle.object.proofs.relocations.relocation_type.Tie as tie
 
@@ -9,4 +10,4 @@ relocation-type-spec =
     (λ c. search needs)
     (λ c. search needs)
     (λ c. search needs)
-    (λ c. cc))
+    (λ c. search (needs, moved)))

@@ -8,4 +8,4 @@ is-loaded-spec =
     (tie.spec
     (λ c. search needs)
     (λ c. search needs)
-    (λ c. cc))
+    (λ c. rw (c .loaded-by .ensures, c .before .section-flags .ensures)))

@@ -7,4 +7,4 @@ is-uninitialized-spec =
     tie.close
     (tie.spec
     (λ c. search needs)
-    (λ c. cc))
+    (λ c. rw (c .section-flags .ensures)))

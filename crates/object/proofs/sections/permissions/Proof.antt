@@ -8,4 +8,4 @@ permissions-spec =
     (tie.spec
     (λ c. search needs)
     (λ c. search needs)
-    (λ c. cc))
+    (λ c. rw (c .permissions-by .ensures, c .before .section-flags .ensures)))

@@ -9,4 +9,4 @@ listed-value-spec =
     (λ c. search needs)
     (λ c. search needs)
     (λ c. search needs)
-    (λ c. cc))
+    (λ c. rw (c .listed-by .ensures, c .before .symbol-value .ensures, c .before .before .symbol-class .ensures)))

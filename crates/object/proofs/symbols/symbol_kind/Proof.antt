@@ -11,4 +11,4 @@ symbol-kind-spec =
     (λ c. search needs)
     (λ c. search needs)
     (λ c. search needs)
-    (λ c. cc))
+    (λ c. rw (c .kind-by .ensures, c .before .auxiliaries .ensures, c .before .before .symbol-value .ensures, c .before .before .before .symbol-type .ensures, c .before .before .before .before .symbol-class .ensures)))

@@ -10,4 +10,4 @@ symbol-place-spec =
     (λ c. search needs)
     (λ c. search needs)
     (λ c. search needs)
-    (λ c. cc))
+    (λ c. rw (c .place-by .ensures, c .before .symbol-value .ensures, c .before .before .symbol-class .ensures, c .before .before .before .section-number .ensures)))

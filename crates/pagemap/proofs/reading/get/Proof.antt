@@ -1,4 +1,5 @@
 use borrow.Author.Needs.{needs}
+use Rattle.pagemap.proofs.Laws.{byte-is}
 use Rattle.pagemap.proofs.reading.get.Statement.{statement}
 use Rattle.pagemap.proofs.reading.get.Tie as tie
 
@@ -10,4 +11,4 @@ get-spec =
     (λ c. search needs)
     (λ c. search needs)
     (λ c. search needs)
-    (λ c. cc))
+    (λ c. search (needs, byte-is)))

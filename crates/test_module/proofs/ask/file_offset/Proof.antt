@@ -2,7 +2,7 @@
 use contract.Running.{givenOf, tables, tablesOf}
 use denote.Triple.Spec.{tripleOf}
 use denote.Triple.Table.{entered, cited}
-use Rattle.module.specs.Section.{fileOffset}
+use Rattle.module.specs.Questions.{fileOffset}
 use Rattle.module.proofs.Words.{va-word, number-word}
 use Rattle.module.proofs.file_offset.Symbol as question
 use Rattle.module.proofs.file_offset.Met as question-thm

@@ -47,10 +47,10 @@ use denote.Triple.Spec.{Meets, tripleOf}
 use denote.Triple.Table.{entered, cited}
 use denote.Triple.Walked.{says, Stays, stay-none, stay-none-slice, walkOf, goes-none, goes-none-slice, Walks, ends-at, walked, walk-meets}
 use denote.Exit.{yes}
-use Rattle.module.specs.declared.Section.{Section}
-use Rattle.module.specs.Section.{filled}
-use Rattle.module.proofs.Section as T
-use Rattle.module.proofs.Section.Laws as T′
+use Rattle.section.specs.declared.Section.{Section}
+use Rattle.module.specs.Questions.{filled}
+use Rattle.section.proofs.Section as T
+use Rattle.section.proofs.Section.Laws as T′
 use Rattle.module.proofs.fill_sections as fill
 use Rattle.module.proofs.fill_sections.Symbol as fill-def
 use Rattle.module.proofs.fill_sections.Symbol.{name as #fill}

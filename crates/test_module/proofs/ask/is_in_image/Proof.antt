@@ -2,7 +2,7 @@
 use contract.Running.{givenOf, tables, tablesOf}
 use denote.Triple.Spec.{tripleOf}
 use denote.Triple.Table.{entered, cited}
-use Rattle.module.specs.Section.{isInImage}
+use Rattle.module.specs.Questions.{isInImage}
 use Rattle.module.proofs.Words.{va-word, bool-word}
 use Rattle.module.proofs.is_in_image.Symbol as question
 use Rattle.module.proofs.is_in_image.Met as question-thm

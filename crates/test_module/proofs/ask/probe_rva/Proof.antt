@@ -2,7 +2,7 @@
 use contract.Running.{givenOf, tables, tablesOf}
 use denote.Triple.Spec.{tripleOf}
 use denote.Triple.Table.{entered, cited}
-use Rattle.module.specs.Section.{probeRva}
+use Rattle.module.specs.Questions.{probeRva}
 use Rattle.module.proofs.Words.{offset-probe-word, bool-word}
 use Rattle.module.proofs.probe_rva.Symbol as question
 use Rattle.module.proofs.probe_rva.Met as question-thm

@@ -2,7 +2,7 @@
 use contract.Running.{givenOf, tables, tablesOf}
 use denote.Triple.Spec.{tripleOf}
 use denote.Triple.Table.{entered, cited}
-use Rattle.module.specs.Section.{probeVa}
+use Rattle.module.specs.Questions.{probeVa}
 use Rattle.module.proofs.Words.{probe-word, bool-word}
 use Rattle.module.proofs.probe_va.Symbol as question
 use Rattle.module.proofs.probe_va.Met as question-thm

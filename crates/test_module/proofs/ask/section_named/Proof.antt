@@ -42,11 +42,11 @@ use denote.Triple.Spec.{Meets, tripleOf}
 use denote.Triple.Table.{entered, cited}
 use denote.Triple.Walked.{says, Stays, stay-none, stay-none-slice, walkOf, goes-none, goes-none-slice, Walks, ends-at, walked, walk-meets}
 use denote.Exit.{yes}
-use Rattle.module.specs.declared.Section.{Section}
-use Rattle.module.proofs.Section as T
-use Rattle.module.proofs.Section.Laws as T′
+use Rattle.section.specs.declared.Section.{Section}
+use Rattle.section.proofs.Section as T
+use Rattle.section.proofs.Section.Laws as T′
 use Rattle.module.proofs.Words.{number-word}
-use Rattle.module.specs.Section.{sectionNamed}
+use Rattle.module.specs.Questions.{sectionNamed}
 use Rattle.refusal.specs.declared.Number.{Number}
 use Rattle.module.proofs.section_named as callee
 use Rattle.module.proofs.section_named.Symbol as callee-def

@@ -2,7 +2,7 @@
 use contract.Running.{givenOf, tables, tablesOf}
 use denote.Triple.Spec.{tripleOf}
 use denote.Triple.Table.{entered, cited}
-use Rattle.module.specs.Section.{sectionOf}
+use Rattle.module.specs.Questions.{sectionOf}
 use Rattle.module.proofs.Words.{va-word, number-word}
 use Rattle.module.proofs.section_of.Symbol as question
 use Rattle.module.proofs.section_of.Met as question-thm

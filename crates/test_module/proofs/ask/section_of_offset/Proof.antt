@@ -2,7 +2,7 @@
 use contract.Running.{givenOf, tables, tablesOf}
 use denote.Triple.Spec.{tripleOf}
 use denote.Triple.Table.{entered, cited}
-use Rattle.module.specs.Section.{sectionOfOffset}
+use Rattle.module.specs.Questions.{sectionOfOffset}
 use Rattle.module.proofs.Words.{u64-word, number-word}
 use Rattle.module.proofs.section_of_offset.Symbol as question
 use Rattle.module.proofs.section_of_offset.Met as question-thm

@@ -2,7 +2,7 @@
 use contract.Running.{givenOf, tables, tablesOf}
 use denote.Triple.Spec.{tripleOf}
 use denote.Triple.Table.{entered, cited}
-use Rattle.module.specs.Section.{virtualAddress}
+use Rattle.module.specs.Questions.{virtualAddress}
 use Rattle.module.proofs.Words.{u64-word, address-word}
 use Rattle.module.proofs.virtual_address.Symbol as question
 use Rattle.module.proofs.virtual_address.Met as question-thm

@@ -1,0 +1,14 @@
+use borrow.Author.Needs.{needs}
+use Rattle.aspace.proofs.Laws.{numbers}
+use Rattle.aspace.proofs.relative.read_u32.Statement.{statement}
+use Rattle.aspace.proofs.relative.read_u32.Tie as tie
+
+pub read-u32-spec : {M : Type 1} → statement M
+read-u32-spec =
+    tie.close
+    (tie.spec
+    (λ c. search (needs, numbers))
+    (λ c. search (needs, numbers))
+    (λ c. search (needs, numbers))
+    (λ c. search (needs, numbers))
+    (λ c. search (needs, numbers)))

@@ -1,0 +1,12 @@
+use borrow.Author.Needs.{needs}
+use Rattle.aspace.proofs.Laws.{by-start}
+use Rattle.aspace.proofs.sliced.read_u32.Statement.{statement}
+use Rattle.aspace.proofs.sliced.read_u32.Tie as tie
+
+pub read-u32-spec : {M : Type 1} → statement M
+read-u32-spec =
+    tie.close
+    (tie.spec
+    (λ c. search (needs, by-start))
+    (λ c. search (needs, by-start))
+    (λ c. search (needs, by-start)))

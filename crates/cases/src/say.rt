@@ -1,0 +1,81 @@
+// What stands behind a question; each part brings its own space.
+use refusal::Answer;
+use refusal::Number;
+
+pub fn text(s: &[u8]) {
+    io::write_all(1, s);
+}
+
+pub fn end() {
+    text(b"\n");
+}
+
+pub fn decimal(v: u64) {
+    text(b" ");
+    io::print_decimal(1, v);
+}
+
+pub fn hex(v: u64) {
+    padded(v, 1);
+}
+
+// At least so many digits.
+pub fn padded(v: u64, width: usize) {
+    text(b" ");
+    io::print_hex(1, v, width);
+}
+
+// A number in two's complement of 64 bits.
+pub fn signed(v: u64) {
+    if v < 0x8000000000000000 {
+        decimal(v);
+    } else {
+        text(b" -");
+        io::print_decimal(1, u64::MAX - v + 1);
+    }
+}
+
+pub fn yes(b: bool) {
+    if b {
+        text(b" yes");
+    } else {
+        text(b" no");
+    }
+}
+
+// Bytes in hexadecimal; none are a dash.
+pub fn bytes(s: &[u8]) {
+    text(b" ");
+    if s.len() == 0 {
+        text(b"-");
+    }
+    let mut i: usize = 0;
+    while i < s.len() {
+        io::print_hex(1, wide(s[i]), 2);
+        i += 1;
+    }
+}
+
+fn wide(b: u8) -> u64 {
+    b as u64
+}
+
+pub fn refused(code: u64) {
+    text(b" refused");
+    decimal(code);
+}
+
+pub fn answer(a: Answer) {
+    match a {
+        Answer::Done => text(b" done"),
+        Answer::Refused(code) => refused(code),
+    }
+}
+
+// A number in hexadecimal, or the refusal.
+pub fn number(n: Number) {
+    match n {
+        Number::Value(v) => hex(v),
+        Number::Refusal(code) => refused(code),
+    }
+}

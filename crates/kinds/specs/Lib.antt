@@ -1,0 +1,5 @@
+pub mod Symbol
+pub mod Flags
+pub mod FlagLaws
+pub mod Types
+pub mod Words

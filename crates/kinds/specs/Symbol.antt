@@ -1,0 +1,79 @@
+-- Kind and place of a symbol by the numbers of its record (01, "Records"; PE/COFF, "COFF Symbol Table").
+use mathlib.Core.Bool.{Bool, _&&_, _||_, not}
+use Prim.Native.Nat.{ℕ, zero, suc, _/_, _%_}
+use lib.IntN.{ℤ, pos, negsuc}
+use lib.Dec.{eqb}
+use Rattle.util.specs.Pick.{pick}
+use Rattle.kinds.specs.declared.SymbolKind.{SymbolKind}
+use Rattle.kinds.specs.declared.SymbolKind.the-variants.{Unknown, Text, Data, Section, File, Label}
+use Rattle.kinds.specs.declared.Place.{Place}
+use Rattle.kinds.specs.declared.Place.the-variants.{In, Undefined, Common, Absolute, Nowhere, Other}
+
+-- ---- storage classes
+abbrev pub EXTERNAL : ℕ
+EXTERNAL = 2
+
+abbrev pub STATIC : ℕ
+STATIC = 3
+
+abbrev pub LABEL : ℕ
+LABEL = 6
+
+abbrev pub FILE : ℕ
+FILE = 103
+
+abbrev pub SECTION : ℕ
+SECTION = 104
+
+abbrev pub WEAK-EXTERNAL : ℕ
+WEAK-EXTERNAL = 105
+
+-- ---- kind
+-- a function's type: bits 4 and 5 hold 2
+unfoldable pub isFunction : ℕ → Bool
+isFunction type = eqb (type / 16 % 4) 2
+
+-- class 2 and 105: text if the type is a function's, else data
+unfoldable pub codeOrData : ℕ → SymbolKind
+codeOrData type = pick (isFunction type) Text Data
+
+-- class 3 is a section if its value is 0 and it has auxiliary records, else as class 2
+unfoldable pub staticKind : ℕ → ℕ → ℕ → SymbolKind
+staticKind type value auxiliary = pick (eqb value 0 && not (eqb auxiliary 0)) Section (codeOrData type)
+
+unfoldable pub kindBy : ℕ → ℕ → ℕ → ℕ → SymbolKind
+kindBy class type value auxiliary =
+    pick (eqb class EXTERNAL || eqb class WEAK-EXTERNAL) (codeOrData type)
+    (pick (eqb class STATIC) (staticKind type value auxiliary)
+    (pick (eqb class SECTION) Section
+    (pick (eqb class FILE) File
+    (pick (eqb class LABEL) Label
+    Unknown))))
+
+-- ---- place, by the signed section number
+-- number 0: undefined if class 2 with value 0, else common
+unfoldable pub zeroPlace : ℕ → ℕ → Place
+zeroPlace class value = pick (eqb class EXTERNAL && eqb value 0) Undefined Common
+
+-- positive: that section; 0: undefined or common; -1: absolute; -2: none, for class 103; any other: unknown
+unfoldable pub placeBy : ℤ → ℕ → ℕ → Place
+placeBy (pos zero) class value = zeroPlace class value
+placeBy (pos (suc n)) class value = In (suc n)
+placeBy (negsuc zero) class value = Absolute
+placeBy (negsuc (suc zero)) class value = pick (eqb class FILE) Nowhere Other
+placeBy (negsuc (suc (suc n))) class value = Other
+
+-- ---- listing
+-- the value that a listing adds: of class 2, 3, 6 or 105, else 0
+unfoldable pub listedBy : ℕ → ℕ → ℕ
+listedBy class value = pick (eqb class EXTERNAL || (eqb class STATIC || (eqb class LABEL || eqb class WEAK-EXTERNAL))) value 0
+
+-- ---- numbers
+-- the number that the tables have for a kind
+abbrev pub kindNumber : SymbolKind → ℕ
+kindNumber Unknown = 0
+kindNumber Text = 1
+kindNumber Data = 2
+kindNumber Section = 3
+kindNumber File = 4
+kindNumber Label = 5

@@ -1,0 +1,191 @@
+// The relocation types of both machines.
+use crate::RelocationKind;
+use crate::RelocationType;
+use arch::Arch;
+ghost use mathlib.Core.Path.{_≡_};
+ghost use Rattle.kinds.specs.Types.{type32, type64, typeOf, kindOfNumber};
+
+// The types of each machine, three words a row: the kind's number, the bits and the addend. Types past the last row are unknown.
+const X32_TYPES: [u64; 63] = [
+    5,
+    0,
+    0,
+    4,
+    0,
+    0,
+    4,
+    0,
+    0,
+    5,
+    0,
+    0,
+    5,
+    0,
+    0,
+    5,
+    0,
+    0,
+    0,
+    32,
+    0,
+    1,
+    32,
+    0,
+    5,
+    0,
+    0,
+    5,
+    0,
+    0,
+    4,
+    0,
+    0,
+    2,
+    32,
+    0,
+    5,
+    0,
+    0,
+    4,
+    0,
+    0,
+    5,
+    0,
+    0,
+    5,
+    0,
+    0,
+    5,
+    0,
+    0,
+    5,
+    0,
+    0,
+    5,
+    0,
+    0,
+    5,
+    0,
+    0,
+    3,
+    32,
+    0xFFFFFFFFFFFFFFFC,
+];
+
+const X64_TYPES: [u64; 39] = [
+    5,
+    0,
+    0,
+    0,
+    64,
+    0,
+    0,
+    32,
+    0,
+    1,
+    32,
+    0,
+    3,
+    32,
+    0xFFFFFFFFFFFFFFFC,
+    3,
+    32,
+    0xFFFFFFFFFFFFFFFB,
+    3,
+    32,
+    0xFFFFFFFFFFFFFFFA,
+    3,
+    32,
+    0xFFFFFFFFFFFFFFF9,
+    3,
+    32,
+    0xFFFFFFFFFFFFFFF8,
+    3,
+    32,
+    0xFFFFFFFFFFFFFFF7,
+    4,
+    0,
+    0,
+    2,
+    32,
+    0,
+    4,
+    0,
+    0,
+];
+
+// The kind of a number in the tables.
+fn kind_of(n: u64) -> RelocationKind
+    ensures { λ r. ⌜ r ≡ kindOfNumber n ⌝ }
+{
+    let absolute = n == 0;
+    if absolute {
+        return RelocationKind::Absolute;
+    }
+    let image = n == 1;
+    if image {
+        return RelocationKind::ImageOffset;
+    }
+    let section = n == 2;
+    if section {
+        return RelocationKind::SectionOffset;
+    }
+    let relative = n == 3;
+    if relative {
+        return RelocationKind::Relative;
+    }
+    let carried = n == 4;
+    if carried {
+        RelocationKind::NotCarried
+    } else {
+        RelocationKind::Unknown
+    }
+}
+
+fn type_32(t: u16) -> RelocationType
+    ensures { λ r. ⌜ r ≡ type32 t ⌝ }
+{
+    let i = t as usize;
+    if i < 21 {
+        RelocationType {
+            kind: kind_of(X32_TYPES[3 * i]),
+            bits: X32_TYPES[3 * i + 1],
+            addend: X32_TYPES[3 * i + 2],
+        }
+    } else {
+        RelocationType {
+            kind: RelocationKind::Unknown,
+            bits: 0,
+            addend: 0,
+        }
+    }
+}
+
+fn type_64(t: u16) -> RelocationType
+    ensures { λ r. ⌜ r ≡ type64 t ⌝ }
+{
+    let i = t as usize;
+    if i < 13 {
+        RelocationType {
+            kind: kind_of(X64_TYPES[3 * i]),
+            bits: X64_TYPES[3 * i + 1],
+            addend: X64_TYPES[3 * i + 2],
+        }
+    } else {
+        RelocationType {
+            kind: RelocationKind::Unknown,
+            bits: 0,
+            addend: 0,
+        }
+    }
+}
+
+// What a type of the machine asks for.
+pub fn type_of(arch: Arch, t: u16) -> RelocationType
+    ensures { λ r. ⌜ r ≡ typeOf arch t ⌝ }
+{
+    match arch {
+        Arch::X32 => type_32(t),
+        Arch::X64 => type_64(t),
+    }
+}

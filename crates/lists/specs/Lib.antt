@@ -1,0 +1,2 @@
+pub mod Relocations
+pub mod RelocationLaws

@@ -1,0 +1,138 @@
+-- Each of the two tables, read back word by word, gives the list of its definition. For every list of outcomes and every buffer that the table fits.
+use mathlib.Core.Path.{_≡_, refl, sym, ap, _∙_}
+use mathlib.Core.List.{List, [], _∷_, append-nil}
+use Prim.Native.Nat.{ℕ, zero, suc, _+_, _*_, _%_, _^_, _≤_, _<_}
+use native.Mathlib.Omega.{arith}
+use native.Mathlib.Nat.{add-zero, mod-mod}
+use lib.ListN.{length, getD}
+use Rattle.le.specs.Le.{get, splice}
+use Rattle.targets.specs.declared.Skip.{Skip}
+use Rattle.targets.specs.declared.Skip.the-variants.{NoSymbol, NoHome, NoSlot, NoType}
+use Rattle.fixups.specs.declared.Fix.{Fix}
+use Rattle.fixups.specs.declared.Outcome.{Outcome}
+use Rattle.fixups.specs.declared.Outcome.the-variants.{Passed, Skipped, TurnedDown, Fixup}
+use Rattle.targets.specs.Target.{skipNumber}
+use Rattle.fixups.specs.Value.{valueOf}
+use Rattle.fixups.specs.Tally.{isFixup, isSkipped, howMany}
+use Rattle.fixups.specs.TallyLaws.{fixups-counted, skips-counted}
+use Rattle.fixups.specs.Lists.{recordsTo, sectionsTo, fixesOf, fixAtRecord, fixList, SkipAt, skipsOf, skipAtRecord, skipList}
+use Rattle.words.specs.Words.{wordBytes, length-words}
+use Rattle.words.specs.Rows.{rowWords, rows-join, length-rows, row-back}
+use Rattle.lists.specs.Relocations.{fixWords, skipWords, fixBytes, skipBytes, fixBytesAt, skipBytesAt, fixTable, skipTable}
+
+-- ---- what each relocation gives, as bytes, are the rows of what it gives as records
+module _ {A : Type 0} (words : A → List ℕ) (out : ℕ → ℕ → List A) (bytes : ℕ → ℕ → List ℕ)
+    (each : (i k : ℕ) → bytes i k ≡ wordBytes (rowWords words (out i k))) where
+  records-rows : (i k : ℕ) → recordsTo bytes i k ≡ wordBytes (rowWords words (recordsTo out i k))
+  unfolding recordsTo rowWords wordBytes
+  records-rows i zero = refl
+  records-rows i (suc k) = rw (records-rows i k, each i k) (rows-join words (recordsTo out i k) (out i k))
+
+  sections-rows : (count : ℕ → ℕ) (n : ℕ) → sectionsTo bytes count n ≡ wordBytes (rowWords words (sectionsTo out count n))
+  unfolding sectionsTo rowWords wordBytes
+  sections-rows count zero = refl
+  sections-rows count (suc n) = rw (sections-rows count n, records-rows n (count n)) (rows-join words (sectionsTo out count n) (recordsTo out n (count n)))
+
+-- ---- fixups
+abbrev pub fixRows : ℕ → List Fix → List ℕ
+fixRows base xs = rowWords (fixWords base) xs
+
+length-fix : (base : ℕ) (x : Fix) → length (fixWords base x) ≡ 3
+unfolding fixWords
+length-fix base x = refl
+
+fix-row : (base : ℕ) (x : Outcome) → fixBytes base x ≡ wordBytes (fixRows base (fixesOf x))
+unfolding rowWords wordBytes
+fix-row base Passed = refl
+fix-row base (Skipped s) = refl
+fix-row base TurnedDown = refl
+fix-row base (Fixup x) = ap wordBytes (sym (append-nil (fixWords base x)))
+
+value-fits : (base : ℕ) (x : Fix) → valueOf base x % 2 ^ 64 ≡ valueOf base x
+unfolding valueOf
+value-fits base x = mod-mod _ (2 ^ 64)
+
+module _ (base : ℕ) (o : ℕ → ℕ → Outcome) (count : ℕ → ℕ) (n : ℕ) where
+  pub fix-words : fixTable base o count n ≡ wordBytes (fixRows base (fixList o count n))
+  unfolding fixBytesAt fixAtRecord
+  fix-words = sections-rows (fixWords base) (fixAtRecord o) (fixBytesAt base o) (λ i k. fix-row base (o i k)) count n
+
+  pub length-fixes : length (fixTable base o count n) ≡ 24 * length (fixList o count n)
+  length-fixes =
+      rw fix-words (length-words (fixRows base (fixList o count n)) ∙ (let l = length-rows (fixWords base) 3 (length-fix base) (fixList o count n) in omega arith))
+
+  -- the bytes that survey's count asks for
+  pub fixes-fill : length (fixTable base o count n) ≡ 24 * howMany isFixup o count n
+  fixes-fill = length-fixes ∙ ap (λ (m : ℕ). 24 * m) (fixups-counted o count n)
+
+  module _ (k : ℕ) (b : List ℕ) (d : Fix) (f : 24 * length (fixList o count n) ≤ length b) (h : k < length (fixList o count n)) where
+    pub fix-back : (w : ℕ) → w < 3
+        → get 8 (splice b 0 (fixTable base o count n)) (24 * k + 8 * w) ≡ getD (fixWords base (getD (fixList o count n) k d)) w 0 % 2 ^ 64
+    fix-back w q =
+        let e : 24 * k + 8 * w ≡ 8 * (3 * k + w) = omega arith in
+        rw (fix-words, e) (row-back (fixWords base) 3 (length-fix base) (fixList o count n) b k w d (omega arith) h q)
+
+    -- the three words of fixup k
+    pub fix-place : get 8 (splice b 0 (fixTable base o count n)) (24 * k) ≡ (base + getD (fixList o count n) k d .place) % 2 ^ 64
+    unfolding fixWords
+    fix-place = rw add-zero at (fix-back 0 (omega arith)) ∙ mod-mod _ (2 ^ 64)
+
+    pub fix-bits : get 8 (splice b 0 (fixTable base o count n)) (24 * k + 8) ≡ getD (fixList o count n) k d .bits % 2 ^ 64
+    unfolding fixWords
+    fix-bits = fix-back 1 (omega arith)
+
+    pub fix-value : get 8 (splice b 0 (fixTable base o count n)) (24 * k + 16) ≡ valueOf base (getD (fixList o count n) k d)
+    unfolding fixWords
+    fix-value = fix-back 2 (omega arith) ∙ value-fits base (getD (fixList o count n) k d)
+
+-- ---- skips: the words of one
+unfoldable pub skipRow : SkipAt → List ℕ
+skipRow s = s .section ∷ s .index ∷ skipNumber (s .reason) ∷ []
+
+length-skip : (s : SkipAt) → length (skipRow s) ≡ 3
+unfolding skipRow
+length-skip s = refl
+
+skip-row : (i k : ℕ) (x : Outcome) → skipBytes i k x ≡ wordBytes (rowWords skipRow (skipsOf i k x))
+unfolding rowWords wordBytes skipRow skipWords
+skip-row i k Passed = refl
+skip-row i k (Skipped s) = refl
+skip-row i k TurnedDown = refl
+skip-row i k (Fixup x) = refl
+
+number-fits : (s : Skip) → skipNumber s % 2 ^ 64 ≡ skipNumber s
+number-fits NoSymbol = refl
+number-fits NoHome = refl
+number-fits NoSlot = refl
+number-fits NoType = refl
+
+module _ (o : ℕ → ℕ → Outcome) (count : ℕ → ℕ) (n : ℕ) where
+  pub skip-words : skipTable o count n ≡ wordBytes (rowWords skipRow (skipList o count n))
+  unfolding skipBytesAt skipAtRecord
+  skip-words = sections-rows skipRow (skipAtRecord o) (skipBytesAt o) (λ i k. skip-row i k (o i k)) count n
+
+  pub length-skips : length (skipTable o count n) ≡ 24 * length (skipList o count n)
+  length-skips =
+      rw skip-words (length-words (rowWords skipRow (skipList o count n)) ∙ (let l = length-rows skipRow 3 length-skip (skipList o count n) in omega arith))
+
+  pub skips-fill : length (skipTable o count n) ≡ 24 * howMany isSkipped o count n
+  skips-fill = length-skips ∙ ap (λ (m : ℕ). 24 * m) (skips-counted o count n)
+
+  module _ (k : ℕ) (b : List ℕ) (d : SkipAt) (f : 24 * length (skipList o count n) ≤ length b) (h : k < length (skipList o count n)) where
+    pub skip-back : (w : ℕ) → w < 3 → get 8 (splice b 0 (skipTable o count n)) (24 * k + 8 * w) ≡ getD (skipRow (getD (skipList o count n) k d)) w 0 % 2 ^ 64
+    skip-back w q =
+        let e : 24 * k + 8 * w ≡ 8 * (3 * k + w) = omega arith in
+        rw (skip-words, e) (row-back skipRow 3 length-skip (skipList o count n) b k w d (omega arith) h q)
+
+    -- the three words of skip k
+    pub skip-section : get 8 (splice b 0 (skipTable o count n)) (24 * k) ≡ getD (skipList o count n) k d .section % 2 ^ 64
+    unfolding skipRow
+    skip-section = rw add-zero at (skip-back 0 (omega arith))
+
+    pub skip-index : get 8 (splice b 0 (skipTable o count n)) (24 * k + 8) ≡ getD (skipList o count n) k d .index % 2 ^ 64
+    unfolding skipRow
+    skip-index = skip-back 1 (omega arith)
+
+    pub skip-reason : get 8 (splice b 0 (skipTable o count n)) (24 * k + 16) ≡ skipNumber (getD (skipList o count n) k d .reason)
+    unfolding skipRow
+    skip-reason = skip-back 2 (omega arith) ∙ number-fits (getD (skipList o count n) k d .reason)

@@ -1,0 +1,103 @@
+-- The section table as a list of records, and the questions to it (01, "module.rs").
+use mathlib.Core.Bool.{Bool, true, false}
+use mathlib.Core.List.{List, [], _∷_}
+use Prim.Native.Nat.{ℕ, zero, suc, _+_, _-_, _/_, _%_, _^_, min}
+use lib.ListN.{length, getD, set}
+use Rattle.util.specs.Pick.{pick}
+use Rattle.arch.specs.declared.VA.{VA}
+use Rattle.arch.specs.Address.{va}
+use Rattle.refusal.specs.Refusal.{NO-SECTION, NO-ENTRY}
+use Rattle.refusal.specs.declared.Number.{Number}
+use Rattle.refusal.specs.declared.Number.the-variants.{Value, Refusal}
+use Rattle.answers.specs.declared.AddressAnswer.{AddressAnswer}
+use Rattle.answers.specs.declared.AddressAnswer.the-variants.{Found, Refused}
+use Rattle.words.specs.Words.{wordOf}
+use Rattle.tables.specs.Sections.{SECTION-BYTES}
+use Rattle.section.specs.declared.Section.{Section}
+use Rattle.section.specs.declared.Probe.{Probe}
+use Rattle.section.specs.declared.OffsetProbe.{OffsetProbe}
+use Rattle.section.specs.Section.{holds, fileHolds, hasByte, sectionHasName, grants, grantsOffset}
+
+-- the first record that p takes gives its answer; where there is none, `none` is it
+unfoldable pub firstOf : {A : Type 0} → (Section → Bool) → (ℕ → Section → A) → A → List Section → ℕ → A
+firstOf p a none [] i = none
+firstOf p a none (s ∷ t) i = pick (p s) (a i s) (firstOf p a none t (suc i))
+
+-- as far into the file range as the address is into the range; and the other way. No sum of load's records is past 64 bits.
+abbrev pub moved : ℕ → ℕ → ℕ → ℕ
+moved from to x = (to + (x - from)) % 2 ^ 64
+
+abbrev pub offsetIn : VA → ℕ → Section → Number
+offsetIn a i s = Value (moved (s .start) (s .«file_start») (a .0))
+
+abbrev pub addressIn : ℕ → ℕ → Section → AddressAnswer
+addressIn o i s = Found (va (moved (s .«file_start») (s .start) o))
+
+abbrev pub numbered : ℕ → Section → Number
+numbered i s = Value i
+
+abbrev pub NONE : Number
+NONE = Refusal NO-SECTION
+
+abbrev pub NO-ADDRESS : AddressAnswer
+NO-ADDRESS = Refused NO-SECTION
+
+-- ---- the questions
+abbrev pub fileOffset : List Section → VA → Number
+fileOffset t a = firstOf (holds a) (offsetIn a) NONE t 0
+
+abbrev pub virtualAddress : List Section → ℕ → AddressAnswer
+virtualAddress t o = firstOf (fileHolds o) (addressIn o) NO-ADDRESS t 0
+
+abbrev pub sectionOf : List Section → VA → Number
+sectionOf t a = firstOf (holds a) numbered NONE t 0
+
+abbrev pub sectionOfOffset : List Section → ℕ → Number
+sectionOfOffset t o = firstOf (fileHolds o) numbered NONE t 0
+
+-- here none is 20
+abbrev pub sectionNamed : List Section → List ℕ → List ℕ → Number
+sectionNamed t file name = firstOf (sectionHasName file name) numbered (Refusal NO-ENTRY) t 0
+
+-- whether some section grants what is asked of the address, or of the offset from the base
+abbrev pub probeVa : List Section → Probe → Bool
+probeVa t q = firstOf (grants q) (λ i s. true) false t 0
+
+abbrev pub probeRva : List Section → OffsetProbe → Bool
+probeRva t q = firstOf (grantsOffset q) (λ i s. true) false t 0
+
+-- ---- an address is in the image if a section's file range holds its file offset
+abbrev pub isBacked : List Section → Number → Bool
+isBacked t n = firstOf (λ s. hasByte s n) (λ i s. true) false t 0
+
+abbrev pub isInImage : List Section → VA → Bool
+isInImage t a = isBacked t (fileOffset t a)
+
+-- ---- the table that load wrote
+abbrev pub sectionAt : List ℕ → ℕ → Section
+sectionAt table r = record {
+  start = wordOf 8 table r 0;
+  end = wordOf 8 table r 1;
+  «file_start» = wordOf 8 table r 2;
+  «file_end» = wordOf 8 table r 3;
+  permissions = wordOf 8 table r 4;
+  «name_start» = wordOf 8 table r 5;
+  «name_length» = wordOf 8 table r 6;
+  number = wordOf 8 table r 7;
+}
+
+-- t with its first n records from the table
+unfoldable pub fillTo : List ℕ → ℕ → List Section → List Section
+fillTo table zero t = t
+fillTo table (suc n) t = set (fillTo table n t) n (sectionAt table n)
+
+-- as many as both have
+abbrev pub filled : List ℕ → List Section → List Section
+filled table t = fillTo table (min (length table / SECTION-BYTES) (length t)) t
+
+-- what stands past the end of a table
+abbrev pub blank : Section
+blank = record { start = 0; end = 0; «file_start» = 0; «file_end» = 0; permissions = 0; «name_start» = 0; «name_length» = 0; number = 0 }
+
+abbrev pub nth : List Section → ℕ → Section
+nth t i = getD t i blank

@@ -1,0 +1,4 @@
+pub mod Marking
+pub mod PageWrite
+pub mod MarkingLaws
+pub mod PageWriteLaws

@@ -1,0 +1,38 @@
+// The results of survey, load and patch as records of words.
+use survey::Counts;
+ghost use mathlib.Core.Path.{_≡_};
+ghost use Rattle.util.specs.Pick.{pick};
+ghost use Rattle.le.specs.Le.{splice};
+ghost use Rattle.words.specs.Words.{wordBytes};
+ghost use Rattle.results.specs.Results.{countsWords, progressWords};
+
+pub fn write_counts(c: Counts, b: &mut [u8])
+    ensures { λ _. ⌜ now (b .exit) ≡ splice (now (b .entry)) 0 (wordBytes (countsWords c)) ⌝ }
+{
+    let ws = [
+        c.pages,
+        c.sections,
+        c.symbols,
+        c.externs,
+        c.fixups,
+        c.skips,
+        c.passed,
+        c.file_sections,
+        c.symbol_records,
+        c.relocations,
+    ];
+    words::put(b, 0, &ws);
+}
+
+fn flag(done: bool) -> u64
+    ensures { λ r. ⌜ r ≡ pick done 1 0 ⌝ }
+{
+    if done { 1 } else { 0 }
+}
+
+pub fn write_progress(position: u64, done: bool, b: &mut [u8])
+    ensures { λ _. ⌜ now (b .exit) ≡ splice (now (b .entry)) 0 (wordBytes (progressWords position done)) ⌝ }
+{
+    let ws = [position, flag(done)];
+    words::put(b, 0, &ws);
+}

@@ -1,0 +1,14 @@
+use borrow.Author.Needs.{needs}
+use Rattle.section.proofs.Laws.{tests}
+use Rattle.section.proofs.has_name.Statement.{statement}
+use Rattle.section.proofs.has_name.Tie as tie
+
+pub has-name-spec : {M : Type 1} → statement M
+has-name-spec =
+    tie.close
+    (tie.spec
+    (λ c κs. search needs)
+    (λ c κs. search needs)
+    (λ c κs. search needs)
+    (λ c. search (needs, tests))
+    (λ c. search (needs, tests)))

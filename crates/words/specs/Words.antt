@@ -1,0 +1,65 @@
+-- A table is records of whole words; a word is eight bytes, low byte first (docs/HOST.md).
+use mathlib.Core.Path.{_≡_, refl, sym, ap, _∙_}
+use mathlib.Core.List.{List, [], _∷_, _++_, append-assoc}
+use Prim.Native.Nat.{ℕ, zero, suc, _+_, _*_, _%_, _^_, _≤_, _<_}
+use native.Mathlib.Omega.{arith}
+use native.Mathlib.Nat.{zero-add, not-suc-le-zero, le-of-suc-le-suc}
+use lib.ListN.{length, getD, length-append, List·getD-append}
+use lib.Seq.{getD-append-add}
+use Rattle.le.specs.Le.{get, le, splice, get-same, get-low, length-le, splice-in}
+use Rattle.names.specs.declared.Name.{Name}
+use Rattle.names.specs.declared.Name.the-variants.{Good, Bad}
+
+abbrev pub WORD : ℕ
+WORD = 8
+
+unfoldable pub wordBytes : List ℕ → List ℕ
+wordBytes [] = []
+wordBytes (w ∷ ws) = le WORD w ++ wordBytes ws
+
+-- word w of record r, where a record has W words
+unfoldable pub wordOf : ℕ → List ℕ → ℕ → ℕ → ℕ
+wordOf W table r w = get WORD table (WORD * (W * r + w))
+
+-- where a name starts in the file, and how long it is; a bad name has no place
+abbrev pub nameStart : Name → ℕ
+nameStart (Good at n) = at
+nameStart Bad = 0
+
+abbrev pub nameLength : Name → ℕ
+nameLength (Good at n) = n
+nameLength Bad = 0
+
+-- ---- laws
+pub words-append : (xs ys : List ℕ) → wordBytes (xs ++ ys) ≡ wordBytes xs ++ wordBytes ys
+unfolding wordBytes
+words-append [] ys = refl
+words-append (x ∷ xs) ys = ap (λ (l : List ℕ). le 8 x ++ l) (words-append xs ys) ∙ sym (append-assoc (le 8 x) (wordBytes xs) (wordBytes ys))
+
+pub length-words : (ws : List ℕ) → length (wordBytes ws) ≡ 8 * length ws
+unfolding wordBytes
+length-words [] = refl
+length-words (w ∷ ws) = simp (length-append, length-le, length-words ws) (omega arith)
+
+get-word : (ws : List ℕ) (j : ℕ) → j < length ws → get 8 (wordBytes ws) (8 * j) ≡ getD ws j 0 % 2 ^ 64
+unfolding wordBytes
+get-word [] j h = absurd (not-suc-le-zero h)
+get-word (w ∷ ws) zero h =
+    get-same 8 (le 8 w ++ wordBytes ws) (le 8 w) 0 0
+    (λ k p. rw zero-add (List·getD-append (le 8 w) (wordBytes ws) 0 k (rw length-le p)))
+    ∙ get-low 8 w
+get-word (w ∷ ws) (suc j) h =
+    get-same 8 (le 8 w ++ wordBytes ws) (wordBytes ws) (8 * suc j) (8 * j)
+    (λ k p.
+    let l : length (le 8 w) ≡ 8 = length-le 8 w in
+    let e : 8 * suc j + k ≡ length (le 8 w) + (8 * j + k) = omega arith in
+    rw e (getD-append-add (le 8 w) (wordBytes ws) (8 * j + k) 0))
+    ∙ get-word ws j (le-of-suc-le-suc h)
+
+-- a word of a list that was put at the front of b
+pub word-back : (ws b : List ℕ) (j : ℕ) → 8 * length ws ≤ length b → j < length ws → get 8 (splice b 0 (wordBytes ws)) (8 * j) ≡ getD ws j 0 % 2 ^ 64
+word-back ws b j f h =
+    let l : length (wordBytes ws) ≡ 8 * length ws = length-words ws in
+    get-same 8 (splice b 0 (wordBytes ws)) (wordBytes ws) (8 * j) (8 * j)
+    (λ k p. rw zero-add at (splice-in b 0 (wordBytes ws) (8 * j + k) (omega arith) (omega arith)))
+    ∙ get-word ws j h

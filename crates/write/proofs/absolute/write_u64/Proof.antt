@@ -1,0 +1,13 @@
+use borrow.Author.Needs.{needs}
+use Rattle.write.proofs.Laws.{write-at}
+use Rattle.write.proofs.absolute.write_u64.Statement.{statement}
+use Rattle.write.proofs.absolute.write_u64.Tie as tie
+
+pub write-u64-spec : {M : Type 1} → statement M
+write-u64-spec =
+    tie.close
+    (tie.spec
+    (λ c. search needs)
+    (λ c. search needs)
+    (λ c. search (needs, write-at))
+    (λ c. search (needs, write-at)))
