@@ -1,7 +1,7 @@
 // Questions to `util`, `arch`, `le`, `object` and `names`. Standard input has one a line: the crate, the function, then its numbers, decimal or behind `0x`,
 // and its bytes as pairs of hexadecimal digits, `-` for none. `file` prepares the bytes that `le`, `object` and `names` are asked of. A line that begins with
 // `--` says what the next ones are about. Each line is written again, and behind a question ` =` and the answer, its numbers in hexadecimal; where there is
-// none, `no`. The answers on records and names were worked out by hand from the rules (docs/DECISIONS.md, 58).
+// none, `no`. What is known of where the answers come from is docs/DECISIONS.md 58.
 mod bytes;
 mod numbers;
 mod records;

@@ -1,7 +1,7 @@
 // Pages in lent storage, and patch over them, at their edges. A line of standard input is a question: word 0 its subject, word 1 the function, then
 // numbers. Lines of `lent`, `image`, `marks`, `given` and `fix` prepare what is lent; a heading behind `--` and an empty line ask nothing. Each line
-// is written again and behind it the answer, so the output is the input with its answers. Those come from the examples in the documentation of the
-// Rust, and by hand from the rules of document 01.
+// is written again and behind it the answer, so the output is the input with its answers. What is known of where
+// those come from is docs/DECISIONS.md 58.
 mod pages;
 mod patches;
 

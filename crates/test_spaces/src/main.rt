@@ -1,6 +1,6 @@
 // The spaces over lent pages, at their edges. A line of standard input is a question: word 0 its subject, word 1 the function, then numbers. Lines
 // of `lent` and `image` prepare what is lent; a heading behind `--` and an empty line ask nothing. Each line is written again and behind it the
-// answer, so the output is the input with its answers. Those were worked out by hand from the rules of document 01.
+// answer, so the output is the input with its answers. What is known of where those come from is docs/DECISIONS.md 58.
 mod by_address;
 mod by_offset;
 mod from_start;
