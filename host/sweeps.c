@@ -158,7 +158,7 @@ static uint64_t load_into(struct storage *s, uint64_t base)
 }
 
 /* Whether the load gets this number and changes nothing, so that the storage can be used as it is for the next try. */
-static bool turned_down(struct storage *s, uint64_t base, uint64_t want, const char *when)
+static bool load_refused(struct storage *s, uint64_t base, uint64_t want, const char *when)
 {
     uint64_t code = load_into(s, base);
     return expect(code == want, "%s: load at 0x%" PRIx64 " answers %" PRIu64 ", not %" PRIu64, when, base, code, want)
@@ -168,12 +168,12 @@ static bool turned_down(struct storage *s, uint64_t base, uint64_t want, const c
 /* A short result comes before a bad base, and that before everything in the file. */
 static bool refused_first(struct storage *s, uint64_t base)
 {
-    if (!turned_down(s, base | 1, NELGRAUF_BASE, "a bad base")
-        || !turned_down(s, NELGRAUF_MAX_BASE + NELGRAUF_PAGE, NELGRAUF_BASE, "a bad base"))
+    if (!load_refused(s, base | 1, NELGRAUF_BASE, "a bad base")
+        || !load_refused(s, NELGRAUF_MAX_BASE + NELGRAUF_PAGE, NELGRAUF_BASE, "a bad base"))
         return false;
     size_t whole = s->of[COUNTS].size;
     cut(&s->of[COUNTS], kinds[COUNTS].unit - 1);
-    bool right = turned_down(s, base, NELGRAUF_STORAGE, "short counts") && turned_down(s, base | 1, NELGRAUF_STORAGE, "short counts");
+    bool right = load_refused(s, base, NELGRAUF_STORAGE, "short counts") && load_refused(s, base | 1, NELGRAUF_STORAGE, "short counts");
     cut(&s->of[COUNTS], whole);
     return right;
 }
@@ -183,7 +183,7 @@ static bool named_bases(struct storage *s, const struct one_case *t, uint64_t co
 {
     for (size_t i = 0; i < t->bases_count; i++) {
         uint64_t want = good_base(t->bases[i]) ? code : NELGRAUF_BASE;
-        if (want != 0 && !turned_down(s, t->bases[i], want, "a base of the case"))
+        if (want != 0 && !load_refused(s, t->bases[i], want, "a base of the case"))
             return false;
     }
     return refused_first(s, t->bases[0]);
@@ -244,7 +244,7 @@ static bool load_shorter(struct storage *s, const struct one_case *t, const stru
             continue;
         cut(&s->of[k], n - 1);
         snprintf(when, sizeof when, "a byte short of %s", kinds[k].name);
-        if (!turned_down(s, base, NELGRAUF_STORAGE, when))
+        if (!load_refused(s, base, NELGRAUF_STORAGE, when))
             return false;
         cut(&s->of[k], n);
     }

@@ -1,15 +1,17 @@
-// An address or an offset from the base as an answer, or the number of a refusal.
+// Numbers that were read, as the addresses or offsets that they stand for.
 ghost use mathlib.Core.Path.{_≡_};
 ghost use Rattle.answers.specs.Answers.{asAddress, asOffset};
 use arch::RVA;
 use arch::VA;
 use refusal::Number;
 
+// An address, or the number of a refusal.
 pub enum AddressAnswer {
     Found(VA),
     Refused(u64),
 }
 
+// An offset from the base, or the number of a refusal.
 pub enum OffsetAnswer {
     Found(RVA),
     Refused(u64),

@@ -1,11 +1,12 @@
 -- An address and an offset from the base; the base stands in every way from one to the other (01, "arch.rs, lib.rs").
-use mathlib.Core.Path.{_≡_}
+use mathlib.Core.Path.{_≡_, sym, ap}
 use mathlib.Core.Bool.{true, false}
+use mathlib.Core.Logic.{⊎-elim}
 use Prim.Native.Nat.{ℕ, _+_, _-_, _^_, _≤_, _<_}
 use native.Mathlib.Omega.{arith}
 use lib.Dec.{ltb, leb}
 use borrow.Author.Tests.{lt-ltb, le-ltb, le-leb}
-use Rattle.util.specs.Pick.{pick}
+use Rattle.util.specs.Pick.{pick, le-or-lt}
 use Rattle.arch.specs.declared.VA.{VA}
 use Rattle.arch.specs.declared.RVA.{RVA}
 use Rattle.arch.specs.declared.Offset.{Offset}
@@ -13,6 +14,7 @@ use Rattle.arch.specs.declared.Offset.the-variants.{At, None}
 use Rattle.arch.specs.declared.Address.{Address}
 use Rattle.arch.specs.declared.Address.the-variants.{Of, Past}
 
+-- the address and the offset of a number
 abbrev pub va : ℕ → VA
 va a = record { 0 = a }
 
@@ -43,6 +45,36 @@ unfolding addressOf offsetOf pick
 address-of-offset base a h k =
     let e : base + (a - base) ≡ a = omega arith in
     (rw (le-leb base a h), rw (e, lt-ltb a (2 ^ 64) k))
+
+-- ---- what an offset tells
+numberOf : Offset → ℕ
+numberOf (At o) = o .0
+numberOf None = 0
+
+isAt : Offset → ℕ
+isAt (At o) = 1
+isAt None = 0
+
+pub at-same : (a o : RVA) → At a ≡ At o → a .0 ≡ o .0
+unfolding numberOf
+at-same a o e = ap numberOf e
+
+pub none-not-at : (o : RVA) → None ≡ At o → ⊥
+unfolding isAt
+none-not-at o e = let z : _≡_ {A = ℕ} 0 1 = ap isAt e in omega arith
+
+module _ (a b : ℕ) where
+  pub plus-tells : (o : RVA) → offsetPlus a b ≡ At o → a + b ≡ o .0
+  unfolding offsetPlus pick
+  plus-tells o e =
+      ⊎-elim (λ t. absurd (none-not-at o (rw (le-ltb (a + b) (2 ^ 64) t) at e)))
+      (λ t. at-same (rva (a + b)) o (rw (lt-ltb (a + b) (2 ^ 64) t) at e))
+      (le-or-lt (2 ^ 64) (a + b))
+
+  pub plus-past : offsetPlus a b ≡ None → 2 ^ 64 ≤ a + b
+  unfolding offsetPlus pick
+  plus-past e =
+      ⊎-elim (λ t. t) (λ t. absurd (none-not-at (rva (a + b)) (sym (rw (lt-ltb (a + b) (2 ^ 64) t) at e)))) (le-or-lt (2 ^ 64) (a + b))
 
 -- ---- the ways through the code
 module _ (base a : ℕ) where

@@ -22,8 +22,23 @@ machineOf X64 = 0x8664
 unfoldable pub archOf : ℕ → Machine
 archOf n = pick (eqb n (machineOf X32)) (Known X32) (pick (eqb n (machineOf X64)) (Known X64) Unknown)
 
+-- the machine of a number that is known; of any other, which is refused before this is asked, the first
+abbrev pub archBy : Machine → Arch
+archBy (Known a) = a
+archBy Unknown = X32
+
 -- there and back
 pub machine-back : (a : Arch) → archOf (machineOf a) ≡ Known a
 unfolding archOf pick
 machine-back X32 = refl
 machine-back X64 = refl
+
+-- ---- the ways through `by_machine`
+module _ (m : Machine) (n : ℕ) (is : m ≡ archOf n) where
+  pub by-known : (a : Arch) → m ≡ Known a → a ≡ archBy (archOf n)
+  by-known a e = rw (← is, e)
+
+  pub by-unknown : m ≡ Unknown → X32 ≡ archBy (archOf n)
+  by-unknown e = rw (← is, e)
+
+pub ruleset machine-ways = (by-known, by-unknown)

@@ -1,6 +1,6 @@
 // The machines, from arch.rs, and addresses, offsets and pages, from lib.rs, pagemap.rs and aspace.rs.
 ghost use mathlib.Core.Path.{_≡_};
-ghost use Rattle.arch.specs.Machine.{pointerSize, machineOf, archOf};
+ghost use Rattle.arch.specs.Machine.{pointerSize, machineOf, archOf, archBy};
 
 mod convert;
 mod page;
@@ -45,6 +45,7 @@ impl Arch {
 
     pub const X64_MACHINE: u16 = 0x8664;
 
+    // How many bytes a pointer has.
     pub fn pointer_size(self) -> usize
         ensures { λ r. ⌜ r ≡ pointerSize self ⌝ }
     {
@@ -77,5 +78,16 @@ impl Arch {
             return Machine::Known(Arch::X64);
         }
         Machine::Unknown
+    }
+
+    // The machine of a number that is known; of any other the first.
+    pub fn by_machine(n: u16) -> Arch
+        ensures { λ r. ⌜ r ≡ archBy (archOf n) ⌝ }
+    {
+        let m = Self::of_machine(n);
+        match m {
+            Machine::Known(a) => a,
+            Machine::Unknown => Arch::X32,
+        }
     }
 }

@@ -8,7 +8,7 @@ use native.Mathlib.Omega.{arith}
 use lib.Dec.{leb}
 use lib.ListN.{length, getD}
 use borrow.Author.Tests.{le-leb, lt-leb}
-use Rattle.util.specs.Pick.{pick, passed-on, le-or-lt}
+use Rattle.util.specs.Pick.{pick, rest-passes, le-or-lt}
 use Rattle.arch.specs.declared.Arch.{Arch}
 use Rattle.arch.specs.declared.Arch.the-variants.{X32, X64}
 use Rattle.arch.specs.Machine.{pointerSize}
@@ -78,7 +78,7 @@ module _ (image marks : List ℕ) (n o p same : ℕ) (is : readCode (length imag
     bytes-by room l =
         rw (← is)
         (leaves-same (pick (leb n room) (readCode (length image) marks o n) 13) old (splice old 0 (part image o n)) (splice old 0 (part image p n)) x r
-        (λ z. rw (there (passed-on (leb n room) (readCode (length image) marks o n) 13 z (λ k. omega arith)))) l)
+        (λ z. rw (there (rest-passes (leb n room) (readCode (length image) marks o n) 13 z (λ k. omega arith)))) l)
 
 -- ---- an address's offset
 module _ (base a n : ℕ) where

@@ -32,12 +32,14 @@ offsetAt base a n = pick (reached base a n) (a - base) (2 ^ 64 - 1)
 unfoldable pub spanAt : ℕ → List ℕ → ℕ → ℕ → ℕ → Bool
 spanAt size marks base a n = reached base a n && spanMapped size marks (a - base) n
 
--- reading: 13, 15; with a buffer of `room` bytes 13 first
+-- reading n bytes from the address a: 13, 15
 unfoldable pub readCodeAt : ℕ → List ℕ → ℕ → ℕ → ℕ → ℕ
 readCodeAt size marks base a n = pick (storageOk size (length marks)) (pick (spanAt size marks base a n) 0 NOT-MAPPED) STORAGE
 
+-- the number of n bytes at the address a
 unfoldable pub readNumberAt : ℕ → List ℕ → List ℕ → ℕ → ℕ → Number
 readNumberAt n image marks base a = numberOf (readCodeAt (length image) marks base a n) (get n image (a - base))
 
+-- into a buffer of `room` bytes: a short buffer is 13, before all else
 unfoldable pub bytesCodeAt : ℕ → List ℕ → ℕ → ℕ → ℕ → ℕ → ℕ
 bytesCodeAt size marks base a n room = pick (leb n room) (readCodeAt size marks base a n) STORAGE

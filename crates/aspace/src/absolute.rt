@@ -28,11 +28,10 @@ pub fn offset_at(base: VA, a: VA, n: u64) -> RVA
 }
 
 // All of n bytes from the address `a` are mapped at the base.
-pub fn span_at(size: u64, marks: &[u8], base: u64, a: u64, n: u64) -> bool
-    ensures { λ r. ⌜ r ≡ spanAt size (now (marks .entry)) base a n ⌝ }
+pub fn span_at(size: u64, marks: &[u8], base: VA, a: VA, n: u64) -> bool
+    ensures { λ r. ⌜ r ≡ spanAt size (now (marks .entry)) (base .0) (a .0) n ⌝ }
 {
-    let offset = offset_at(VA(base), VA(a), n);
-    pagemap::span_mapped(size, marks, offset.0, n)
+    pagemap::span_mapped(size, marks, offset_at(base, a, n), n)
 }
 
 // The bytes from `address` on, as many as `buf` takes.
@@ -48,24 +47,28 @@ pub fn read_into(image: &[u8], marks: &[u8], base: VA, address: VA, buf: &mut [u
     )
 }
 
+// The number of 1, 2, 4 or 8 bytes at `address`.
 pub fn read_u8(image: &[u8], marks: &[u8], base: VA, address: VA) -> Number
     ensures { λ r. ⌜ r ≡ readNumberAt 1 (now (image .entry)) (now (marks .entry)) (base .0) (address .0) ⌝ }
 {
     relative::read_u8(image, marks, offset_at(base, address, 1))
 }
 
+// Of two bytes.
 pub fn read_u16(image: &[u8], marks: &[u8], base: VA, address: VA) -> Number
     ensures { λ r. ⌜ r ≡ readNumberAt 2 (now (image .entry)) (now (marks .entry)) (base .0) (address .0) ⌝ }
 {
     relative::read_u16(image, marks, offset_at(base, address, 2))
 }
 
+// Of four bytes.
 pub fn read_u32(image: &[u8], marks: &[u8], base: VA, address: VA) -> Number
     ensures { λ r. ⌜ r ≡ readNumberAt 4 (now (image .entry)) (now (marks .entry)) (base .0) (address .0) ⌝ }
 {
     relative::read_u32(image, marks, offset_at(base, address, 4))
 }
 
+// Of eight bytes.
 pub fn read_u64(image: &[u8], marks: &[u8], base: VA, address: VA) -> Number
     ensures { λ r. ⌜ r ≡ readNumberAt 8 (now (image .entry)) (now (marks .entry)) (base .0) (address .0) ⌝ }
 {

@@ -20,30 +20,34 @@ pub fn read_into(image: &[u8], marks: &[u8], offset: RVA, buf: &mut [u8]) -> Ans
     pagemap::slice_into(image, marks, offset, buf)
 }
 
+// The number of 1, 2, 4 or 8 bytes at `offset`.
 pub fn read_u8(image: &[u8], marks: &[u8], offset: RVA) -> Number
     ensures { λ r. ⌜ r ≡ readNumber 1 (now (image .entry)) (now (marks .entry)) (offset .0) ⌝ }
 {
     pagemap::get(image, marks, offset)
 }
 
+// Of two bytes.
 pub fn read_u16(image: &[u8], marks: &[u8], offset: RVA) -> Number
     ensures { λ r. ⌜ r ≡ readNumber 2 (now (image .entry)) (now (marks .entry)) (offset .0) ⌝ }
 {
-    let code = pagemap::read_code(image.len() as u64, marks, offset.0, 2);
+    let code = pagemap::read_code(image.len() as u64, marks, offset, 2);
     refusal::number_of(code, le::u16_at(image, offset.0 as usize) as u64)
 }
 
+// Of four bytes.
 pub fn read_u32(image: &[u8], marks: &[u8], offset: RVA) -> Number
     ensures { λ r. ⌜ r ≡ readNumber 4 (now (image .entry)) (now (marks .entry)) (offset .0) ⌝ }
 {
-    let code = pagemap::read_code(image.len() as u64, marks, offset.0, 4);
+    let code = pagemap::read_code(image.len() as u64, marks, offset, 4);
     refusal::number_of(code, le::u32_at(image, offset.0 as usize) as u64)
 }
 
+// Of eight bytes.
 pub fn read_u64(image: &[u8], marks: &[u8], offset: RVA) -> Number
     ensures { λ r. ⌜ r ≡ readNumber 8 (now (image .entry)) (now (marks .entry)) (offset .0) ⌝ }
 {
-    let code = pagemap::read_code(image.len() as u64, marks, offset.0, 8);
+    let code = pagemap::read_code(image.len() as u64, marks, offset, 8);
     refusal::number_of(code, le::u64_at(image, offset.0 as usize))
 }
 
@@ -57,8 +61,9 @@ pub fn read_pointer(image: &[u8], marks: &[u8], arch: Arch, offset: RVA) -> Numb
     }
 }
 
-fn bytes_code(size: u64, marks: &[u8], o: u64, n: u64, room: u64) -> u64
-    ensures { λ r. ⌜ r ≡ bytesCode size (now (marks .entry)) o n room ⌝ }
+// The refusal of reading n bytes from `o` into `room` bytes, or 0.
+fn bytes_code(size: u64, marks: &[u8], o: RVA, n: u64, room: u64) -> u64
+    ensures { λ r. ⌜ r ≡ bytesCode size (now (marks .entry)) (o .0) n room ⌝ }
 {
     let fits = n <= room;
     if fits {
@@ -76,7 +81,7 @@ pub fn read_bytes(image: &[u8], marks: &[u8], offset: RVA, n: usize, out: &mut [
     let code = bytes_code(
         image.len() as u64,
         marks,
-        offset.0,
+        offset,
         n as u64,
         out.len() as u64,
     );

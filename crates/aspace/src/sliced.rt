@@ -25,6 +25,7 @@ fn further(start: RVA, offset: RVA) -> RVA
     }
 }
 
+// The bytes from there on, as many as `buf` takes.
 pub fn read_into(image: &[u8], marks: &[u8], start: RVA, offset: RVA, buf: &mut [u8]) -> Answer
     ensures { λ r. ⌜ Leaves (readCode (length (now (image .entry))) (now (marks .entry)) (start .0 + offset .0) (length (now (buf .entry))))
         (now (buf .entry)) (part (now (image .entry)) (start .0 + offset .0) (length (now (buf .entry)))) (now (buf .exit)) r ⌝ }
@@ -32,36 +33,42 @@ pub fn read_into(image: &[u8], marks: &[u8], start: RVA, offset: RVA, buf: &mut 
     relative::read_into(image, marks, further(start, offset), buf)
 }
 
+// The number of 1, 2, 4 or 8 bytes there.
 pub fn read_u8(image: &[u8], marks: &[u8], start: RVA, offset: RVA) -> Number
     ensures { λ r. ⌜ r ≡ readNumber 1 (now (image .entry)) (now (marks .entry)) (start .0 + offset .0) ⌝ }
 {
     relative::read_u8(image, marks, further(start, offset))
 }
 
+// Of two bytes.
 pub fn read_u16(image: &[u8], marks: &[u8], start: RVA, offset: RVA) -> Number
     ensures { λ r. ⌜ r ≡ readNumber 2 (now (image .entry)) (now (marks .entry)) (start .0 + offset .0) ⌝ }
 {
     relative::read_u16(image, marks, further(start, offset))
 }
 
+// Of four bytes.
 pub fn read_u32(image: &[u8], marks: &[u8], start: RVA, offset: RVA) -> Number
     ensures { λ r. ⌜ r ≡ readNumber 4 (now (image .entry)) (now (marks .entry)) (start .0 + offset .0) ⌝ }
 {
     relative::read_u32(image, marks, further(start, offset))
 }
 
+// Of eight bytes.
 pub fn read_u64(image: &[u8], marks: &[u8], start: RVA, offset: RVA) -> Number
     ensures { λ r. ⌜ r ≡ readNumber 8 (now (image .entry)) (now (marks .entry)) (start .0 + offset .0) ⌝ }
 {
     relative::read_u64(image, marks, further(start, offset))
 }
 
+// A number of the machine's pointer size.
 pub fn read_pointer(image: &[u8], marks: &[u8], arch: Arch, start: RVA, offset: RVA) -> Number
     ensures { λ r. ⌜ r ≡ readNumber (pointerSize arch) (now (image .entry)) (now (marks .entry)) (start .0 + offset .0) ⌝ }
 {
     relative::read_pointer(image, marks, arch, further(start, offset))
 }
 
+// `n` bytes from there on, to the front of `out`, which must have room for them (13).
 pub fn read_bytes(
     image: &[u8],
     marks: &[u8],

@@ -19,6 +19,7 @@ fn byte(x: u32) -> u32 {
     bit(bit(bit(bit(bit(bit(bit(bit(x))))))))
 }
 
+// The CRC-32 of bytes, as zlib computes it.
 pub fn crc32(s: &[u8]) -> u64 {
     let mut x: u32 = 0xFFFFFFFF;
     let mut i: usize = 0;

@@ -2,19 +2,23 @@
 use refusal::Answer;
 use refusal::Number;
 
+// Bytes as they stand.
 pub fn text(s: &[u8]) {
     io::write_all(1, s);
 }
 
+// The line's end.
 pub fn end() {
     text(b"\n");
 }
 
+// A number in decimal.
 pub fn decimal(v: u64) {
     text(b" ");
     io::print_decimal(1, v);
 }
 
+// A number in hexadecimal, with as many digits as it needs.
 pub fn hex(v: u64) {
     padded(v, 1);
 }
@@ -35,6 +39,7 @@ pub fn signed(v: u64) {
     }
 }
 
+// Yes or no.
 pub fn yes(b: bool) {
     if b {
         text(b" yes");
@@ -60,11 +65,13 @@ fn wide(b: u8) -> u64 {
     b as u64
 }
 
+// The number of a refusal.
 pub fn refused(code: u64) {
     text(b" refused");
     decimal(code);
 }
 
+// What an operation says that only writes.
 pub fn answer(a: Answer) {
     match a {
         Answer::Done => text(b" done"),

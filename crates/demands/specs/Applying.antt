@@ -17,9 +17,9 @@ use Rattle.patch.specs.Patch.{portion, patchCode, patchAnswer}
 use Rattle.demands.specs.Calls.{Call, patch, upFrom, appliedBy, applied, afterCall, answerTo, afterCalls, answersTo}
 
 -- the image once the fixups ks are applied, one after another
-unfoldable pub written : ℕ → List ℕ → List ℕ → List ℕ → List ℕ
-written base fixes image [] = image
-written base fixes image (k ∷ ks) = written base fixes (fixed base fixes image k) ks
+unfoldable pub writtenAt : ℕ → List ℕ → List ℕ → List ℕ → List ℕ
+writtenAt base fixes image [] = image
+writtenAt base fixes image (k ∷ ks) = writtenAt base fixes (fixed base fixes image k) ks
 
 -- only 14 can be the answer's refusal: by the position alone
 abbrev pub plainCode : ℕ → ℕ → ℕ
@@ -72,25 +72,25 @@ module _ (base : ℕ) (fixes : List ℕ) where
   unfolding fixed
   length-fixed image k = length-splice _ _ _
 
-  pub length-written : (image ks : List ℕ) → length (written base fixes image ks) ≡ length image
-  unfolding written
+  pub length-written : (image ks : List ℕ) → length (writtenAt base fixes image ks) ≡ length image
+  unfolding writtenAt
   length-written image [] = refl
   length-written image (k ∷ ks) = length-written (fixed base fixes image k) ks ∙ length-fixed image k
 
-  written-both : (image xs ys : List ℕ) → written base fixes image (xs ++ ys) ≡ written base fixes (written base fixes image xs) ys
-  unfolding written
+  written-both : (image xs ys : List ℕ) → writtenAt base fixes image (xs ++ ys) ≡ writtenAt base fixes (writtenAt base fixes image xs) ys
+  unfolding writtenAt
   written-both image [] ys = refl
   written-both image (x ∷ xs) ys = written-both (fixed base fixes image x) xs ys
 
-  from-written : (image : List ℕ) (p n : ℕ) → fixedFrom base fixes image p n ≡ written base fixes image (upFrom p n)
-  unfolding fixedFrom upFrom written
+  from-written : (image : List ℕ) (p n : ℕ) → fixedFrom base fixes image p n ≡ writtenAt base fixes image (upFrom p n)
+  unfolding fixedFrom upFrom writtenAt
   from-written image p zero = refl
   from-written image p (suc n) =
       ap (λ (l : List ℕ). fixed base fixes l (p + n)) (from-written image p n) ∙ sym (written-both image (upFrom p n) ((p + n) ∷ []))
 
   module _ (marks : List ℕ) (size : ℕ) (plain : (number position : ℕ) → patchCode size marks base fixes number position ≡ plainCode (fixCount fixes) position) where
-    call-writes : (image : List ℕ) (c : Call) → length image ≡ size → afterCall base marks fixes image c ≡ written base fixes image (appliedBy (fixCount fixes) c)
-    unfolding afterCall appliedBy pick unlessRefused written
+    call-writes : (image : List ℕ) (c : Call) → length image ≡ size → afterCall base marks fixes image c ≡ writtenAt base fixes image (appliedBy (fixCount fixes) c)
+    unfolding afterCall appliedBy pick unlessRefused writtenAt
     call-writes image (patch number position) e =
         ⊎-elim
         (λ b.
@@ -101,14 +101,14 @@ module _ (base : ℕ) (fixes : List ℕ) where
         rw (e, z, applies-none (fixCount fixes) number position b))
         (yes-no (leb position (fixCount fixes)))
 
-    pub calls-write : (cs : List Call) (image : List ℕ) → length image ≡ size → afterCalls base marks fixes image cs ≡ written base fixes image (applied (fixCount fixes) cs)
-    unfolding afterCalls applied written
+    pub calls-write : (cs : List Call) (image : List ℕ) → length image ≡ size → afterCalls base marks fixes image cs ≡ writtenAt base fixes image (applied (fixCount fixes) cs)
+    unfolding afterCalls applied writtenAt
     calls-write [] image e = refl
     calls-write (c ∷ cs) image e =
-        let w : afterCall base marks fixes image c ≡ written base fixes image (appliedBy (fixCount fixes) c) = call-writes image c e in
+        let w : afterCall base marks fixes image c ≡ writtenAt base fixes image (appliedBy (fixCount fixes) c) = call-writes image c e in
         let l : length (afterCall base marks fixes image c) ≡ size = rw w (length-written image (appliedBy (fixCount fixes) c) ∙ e) in
         calls-write cs (afterCall base marks fixes image c) l
-        ∙ ap (λ (i : List ℕ). written base fixes i (applied (fixCount fixes) cs)) w
+        ∙ ap (λ (i : List ℕ). writtenAt base fixes i (applied (fixCount fixes) cs)) w
         ∙ sym (written-both image (appliedBy (fixCount fixes) c) (applied (fixCount fixes) cs))
 
     answer-plain : (image : List ℕ) (c : Call) → length image ≡ size → answerTo base marks fixes image c ≡ plainAnswer (fixCount fixes) c
@@ -119,6 +119,6 @@ module _ (base : ℕ) (fixes : List ℕ) where
     unfolding answersTo plainAnswers
     answers-plain [] image e = refl
     answers-plain (c ∷ cs) image e =
-        let w : afterCall base marks fixes image c ≡ written base fixes image (appliedBy (fixCount fixes) c) = call-writes image c e in
+        let w : afterCall base marks fixes image c ≡ writtenAt base fixes image (appliedBy (fixCount fixes) c) = call-writes image c e in
         let l : length (afterCall base marks fixes image c) ≡ size = rw w (length-written image (appliedBy (fixCount fixes) c) ∙ e) in
         rw (answer-plain image c e, answers-plain cs (afterCall base marks fixes image c) l)

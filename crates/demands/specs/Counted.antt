@@ -12,7 +12,7 @@ use Rattle.tables.specs.Sections.{sectionTable}
 use Rattle.tables.specs.Externs.{externTable}
 use Rattle.lists.specs.Relocations.{fixTable}
 use Rattle.image.specs.Laid.{laidImage}
-use Rattle.image.specs.MarkWords.{markCount, markBytes}
+use Rattle.marks.specs.Marks.{wordsFor, markBytes}
 
 abbrev pub pagesOf : List ℕ → ℕ
 pagesOf f = mappedPages f (headerOf f)
@@ -22,13 +22,14 @@ abbrev pub imageOf : List ℕ → ℕ → List ℕ
 imageOf f base = laidImage f (headerOf f) base (length (externs f (headerOf f))) (replicate (PAGE-SIZE * pagesOf f) 0)
 
 abbrev pub marksOf : List ℕ → List ℕ
-marksOf f = markBytes (pagesOf f) (markCount (pagesOf f))
+marksOf f = markBytes (pagesOf f) (wordsFor (pagesOf f))
 
-abbrev pub fixesOf : List ℕ → ℕ → List ℕ
-fixesOf f base = fixTable base (outcomes f (headerOf f)) (relocationCount f (headerOf f)) (headerOf f .sections)
+abbrev pub fixTableOf : List ℕ → ℕ → List ℕ
+fixTableOf f base = fixTable base (outcomes f (headerOf f)) (relocationCount f (headerOf f)) (headerOf f .sections)
 
 abbrev pub sectionsOf : List ℕ → ℕ → List ℕ
 sectionsOf f base = sectionTable f (headerOf f) base (startsTo f (headerOf f) (headerOf f .sections)) (undefStart f (headerOf f))
 
+-- and the table of extern names
 abbrev pub externsOf : List ℕ → ℕ → List ℕ
 externsOf f base = externTable f (headerOf f) base (undefStart f (headerOf f)) (externs f (headerOf f)) (length (externs f (headerOf f)))

@@ -3,23 +3,24 @@ use mathlib.Core.Path.{_≡_, refl, sym, ap, _∙_}
 use mathlib.Core.Bool.{true, false}
 use mathlib.Core.List.{List, [], _∷_, _++_}
 use mathlib.Core.Logic.{⊎-elim}
-use Prim.Native.Nat.{ℕ, suc}
+use Prim.Native.Nat.{ℕ, suc, _-_}
 use native.Mathlib.Omega.{arith}
 use lib.Dec.{eqb, leb}
 use lib.ListN.{length}
 use Rattle.util.specs.Pick.{pick, yes-no}
 use Rattle.object.specs.Format.{headerOf}
-use Rattle.checks.specs.Limits.{MAX-EXTERNS}
+use Rattle.limits.specs.Limits.{MAX-EXTERNS}
 use Rattle.externs.specs.Externs.{externs}
-use Rattle.refusal.specs.Refusal.{STORAGE}
+use Rattle.refusal.specs.Refusal.{EXTERNS, TARGET, PLACE, STORAGE}
 use Rattle.survey.specs.declared.answer.Counts.{Counts}
-use Rattle.survey.specs.declared.answer.Survey.{Survey}
 use Rattle.survey.specs.declared.answer.Survey.the-variants.{Accepted, Refused}
-use Rattle.survey.specs.Survey.{Check, check, firstFailed, externChecks, targetChecks, tally, checks, counts, answerBy, surveyOf}
+use Rattle.survey.specs.Survey.{Check, check, firstFailed, externChecks, targetChecks, tally, checks, counts, surveyOf}
 use Rattle.survey.specs.SurveyLaws.{check-holds, checks-hold, ordered, ordered-rest, records-rest, tells-accepted, tells-refused}
 use Rattle.checks.specs.Checks.{baseOk}
-use Rattle.load.specs.Load.{Storage, roomOk, stored, loadChecks, Loads}
-use Rattle.load.specs.LoadLaws.{load-refused}
+use Rattle.load.specs.declared.answer.Load.{Load}
+use Rattle.load.specs.declared.answer.Load.the-variants as load
+use Rattle.load.specs.Load.{Storage, roomOk, stored, loadChecks, loadAnswer, Loads}
+use Rattle.load.specs.LoadLaws.{load-refused, load-tells-refused}
 
 -- ---- the first of a list of checks that fails, and its number
 abbrev pub AllPass : List Check → Type 0
@@ -31,7 +32,7 @@ pub record FirstFailure (cs : List Check) (n : ℕ) : Type 0 where
   pub failed : Check
   pub after : List Check
   pub split : cs ≡ before ++ (failed ∷ after)
-  pub passed : AllPass before
+  pub before-pass : AllPass before
   pub fails : failed .passes ≡ false
   pub numbered : failed .number ≡ n
 
@@ -47,11 +48,11 @@ refusal-is-first (c ∷ cs) n e =
       failed = r .failed;
       after = r .after;
       split = ap (λ (l : List Check). c ∷ l) (r .split);
-      passed = (t, r .passed);
+      before-pass = (t, r .before-pass);
       fails = r .fails;
       numbered = r .numbered;
     })
-    (λ t. record { before = []; failed = c; after = cs; split = refl; passed = tt; fails = t; numbered = rw t at e })
+    (λ t. record { before = []; failed = c; after = cs; split = refl; before-pass = tt; fails = t; numbered = rw t at e })
     (yes-no (c .passes))
 
 -- ---- survey
@@ -66,9 +67,9 @@ module _ (f : List ℕ) (base : ℕ) (s s′ : Storage) where
     pub first : FirstFailure (loadChecks f (headerOf f) base s) n
     pub unchanged : s′ ≡ s
 
-  pub load-refuses : (n : ℕ) → Loads f base s s′ (Refused (suc n)) → Refuses (suc n)
+  pub load-refuses : (n : ℕ) → Loads f base s s′ (load.Refused (suc n)) → Refuses (suc n)
   load-refuses n loads =
-      let t = tells-refused (firstFailed (loadChecks f (headerOf f) base s)) (counts f (headerOf f)) (suc n) (sym (loads .says)) in
+      let t = load-tells-refused (firstFailed (loadChecks f (headerOf f) base s)) (counts f (headerOf f)) (suc n) (sym (loads .says)) in
       record { first = refusal-is-first (loadChecks f (headerOf f) base s) n (t .0); unchanged = load-refused f base s s′ (suc n) loads }
 
   -- a file that survey accepts is loaded whole at every allowed base into storage that has room
@@ -83,16 +84,16 @@ module _ (f : List ℕ) (base : ℕ) (s s′ : Storage) where
     late = externChecks (length (externs f (headerOf f))) ++ targetChecks (tally f (headerOf f))
 
     abbrev place : List Check
-    place = check (eqb (tally f (headerOf f) .outside) 0) 11 ∷ []
+    place = check (eqb (tally f (headerOf f) .outside) 0) PLACE ∷ []
 
     names : firstFailed late ≡ 0
     names = ordered-rest f (headerOf f) late (told .0)
 
     targets : firstFailed (targetChecks (tally f (headerOf f))) ≡ 0
-    targets = checks-hold (leb (length (externs f (headerOf f))) MAX-EXTERNS) 8 (targetChecks (tally f (headerOf f))) names
+    targets = checks-hold (leb (length (externs f (headerOf f))) MAX-EXTERNS) (EXTERNS - 1) (targetChecks (tally f (headerOf f))) names
 
     places : firstFailed place ≡ 0
-    places = checks-hold (eqb (tally f (headerOf f) .refused) 0) 9 place targets
+    places = checks-hold (eqb (tally f (headerOf f) .refused) 0) (TARGET - 1) place targets
 
     no-failure : firstFailed (loadChecks f (headerOf f) base s) ≡ 0
     unfolding firstFailed pick
@@ -102,17 +103,18 @@ module _ (f : List ℕ) (base : ℕ) (s s′ : Storage) where
         rw allowed
         (records-rest f (headerOf f) (externChecks (length (externs f (headerOf f))) ++ (targetChecks (tally f (headerOf f)) ++ last)) o
         ∙ rw (
-          check-holds (leb (length (externs f (headerOf f))) MAX-EXTERNS) 8 (targetChecks (tally f (headerOf f))) names,
-          check-holds (eqb (tally f (headerOf f) .refused) 0) 9 place targets,
-          check-holds (eqb (tally f (headerOf f) .outside) 0) 10 [] places,
+          check-holds (leb (length (externs f (headerOf f))) MAX-EXTERNS) (EXTERNS - 1) (targetChecks (tally f (headerOf f))) names,
+          check-holds (eqb (tally f (headerOf f) .refused) 0) (TARGET - 1) place targets,
+          check-holds (eqb (tally f (headerOf f) .outside) 0) (PLACE - 1) [] places,
           r,
         ))
 
-    pub record Does (r : Survey) : Type 0 where
-      pub says : r ≡ Accepted c
+    -- load says so, and the storage holds everything
+    pub record Does (r : Load) : Type 0 where
+      pub says : r ≡ load.Loaded c
       pub leaves : s′ ≡ stored f (headerOf f) base s
 
-    pub load-does : (r : Survey) → Loads f base s s′ r → Does r
-    unfolding answerBy pick
+    pub load-does : (r : Load) → Loads f base s s′ r → Does r
+    unfolding loadAnswer pick
     load-does r loads =
-        record { says = loads .says ∙ rw no-failure (ap Accepted (told .1)); leaves = rw no-failure at (loads .leaves) }
+        record { says = loads .says ∙ rw no-failure (ap load.Loaded (told .1)); leaves = rw no-failure at (loads .leaves) }

@@ -25,8 +25,8 @@ use Rattle.fixups.specs.ListLaws.{every-fixup}
 use Rattle.survey.specs.declared.answer.Counts.{Counts}
 use Rattle.survey.specs.declared.answer.Survey.the-variants.{Accepted}
 use Rattle.survey.specs.Survey.{outcomes, surveyOf}
-use Rattle.survey.specs.Fixups.{fixups-exact}
-use Rattle.checks.specs.Limits.{MAX-BASE}
+use Rattle.survey.specs.Acceptance.{fixups-exact}
+use Rattle.limits.specs.Limits.{MAX-BASE}
 use Rattle.checks.specs.Checks.{baseOk}
 use Rattle.demands.specs.Origin.{fixupsOf, fixupAt, noFixup, fixupValue}
 
@@ -42,7 +42,7 @@ takenAway Unknown base place start = 0
 -- the target's address, the symbol's value, the bytes already in the field and the addend, less that; in two's complement of 64 bits
 unfoldable pub standardValue : ℕ → Fix → ℕ → ℕ → ℕ → ℕ
 standardValue base x value field start =
-    (base + x .target + value + field + x .addend + (2 ^ 64 - takenAway (x .kind) base (x .place) start)) % 2 ^ 64
+    (base + x .target .0 + value + field + x .addend + (2 ^ 64 - takenAway (x .kind) base (x .place .0) start)) % 2 ^ 64
 
 -- absolute and relative fixups of symbols at the start of their section, with zero fields, have the standard's value
 pub standard-met : (base : ℕ) (x : Fix) (start : ℕ) → base ≤ MAX-BASE → Exact x → (x .kind ≡ Absolute) ⊎ (x .kind ≡ Relative) → standardValue base x 0 0 start ≡ valueOf base x

@@ -23,28 +23,28 @@ use Rattle.survey.specs.declared.answer.Counts.{Counts}
 use Rattle.survey.specs.declared.answer.Survey.the-variants.{Accepted}
 use Rattle.survey.specs.Survey.{surveyOf}
 use Rattle.survey.specs.Acceptance.{pages-few, names-few}
-use Rattle.survey.specs.Fixups.{fixups-exact, fixups-inside}
+use Rattle.survey.specs.Acceptance.{fixups-exact, fixups-inside}
 use Rattle.image.specs.LaidLaws.{length-laid}
 use Rattle.patch.specs.declared.answer.Patch.{Patch}
 use Rattle.patch.specs.Fixes.{fixCount, placeAt, bitsAt, valueAt, widthOf}
 use Rattle.patch.specs.Patch.{patchCode}
-use Rattle.checks.specs.Limits.{MAX-PAGES, MAX-BASE}
+use Rattle.limits.specs.Limits.{MAX-PAGES, MAX-BASE}
 use Rattle.checks.specs.Checks.{baseOk}
 use Rattle.demands.specs.Calls.{Call, applied, afterCalls, answersTo}
 use Rattle.demands.specs.Origin.{fixupsOf, fixupAt, noFixup, slotsOf, fixupPlace, fixupWidth, fixupValue, undefAddress, slotValue, inSection, latest, originBy, origin, byteOf}
-use Rattle.demands.specs.Counted.{pagesOf, imageOf, marksOf, fixesOf}
-use Rattle.demands.specs.Applying.{written, plainCode, plainAnswers, applied-below, calls-write, answers-plain, length-written}
-use Rattle.demands.specs.Mapped.{Placed, fixes-counted, place-back, bits-back, value-back, only-position}
+use Rattle.demands.specs.Counted.{pagesOf, imageOf, marksOf, fixTableOf}
+use Rattle.demands.specs.Applying.{writtenAt, plainCode, plainAnswers, applied-below, calls-write, answers-plain, length-written}
+use Rattle.demands.specs.Mapped.{FixupPlaced, fixes-counted, place-back, bits-back, value-back, only-position}
 use Rattle.demands.specs.Bytes.{seen, written-byte}
 use Rattle.demands.specs.Laying.{in-range, laid-byte}
 use Rattle.demands.specs.Moving.{origin-same}
 
 -- the image, and the answers, once the calls are made on what the load of f at the base leaves
 abbrev pub imageAfter : List ℕ → ℕ → List Call → List ℕ
-imageAfter f base calls = afterCalls base (marksOf f) (fixesOf f base) (imageOf f base) calls
+imageAfter f base calls = afterCalls base (marksOf f) (fixTableOf f base) (imageOf f base) calls
 
 abbrev pub answersAfter : List ℕ → ℕ → List Call → List Patch
-answersAfter f base calls = answersTo base (marksOf f) (fixesOf f base) (imageOf f base) calls
+answersAfter f base calls = answersTo base (marksOf f) (fixTableOf f base) (imageOf f base) calls
 
 -- the fixups that the calls apply, the latest last: by their numbers and positions and the list's count alone
 abbrev pub appliedTo : List ℕ → List Call → List ℕ
@@ -53,12 +53,12 @@ appliedTo f calls = applied (length (fixupsOf f)) calls
 -- ---- at a base
 pub record AtBase (f : List ℕ) (base : ℕ) (calls : List Call) : Type 0 where
   -- the fix list is the load's fixups
-  pub count : fixCount (fixesOf f base) ≡ length (fixupsOf f)
-  pub places : (k : ℕ) → k < length (fixupsOf f) → placeAt (fixesOf f base) k ≡ fixupPlace f base k
-  pub widths : (k : ℕ) → k < length (fixupsOf f) → widthOf (bitsAt (fixesOf f base) k) ≡ fixupWidth f base k
-  pub values : (k : ℕ) → k < length (fixupsOf f) → valueAt (fixesOf f base) k ≡ fixupValue f base k
+  pub count : fixCount (fixTableOf f base) ≡ length (fixupsOf f)
+  pub places : (k : ℕ) → k < length (fixupsOf f) → placeAt (fixTableOf f base) k ≡ fixupPlace f base k
+  pub widths : (k : ℕ) → k < length (fixupsOf f) → widthOf (bitsAt (fixTableOf f base) k) ≡ fixupWidth f base k
+  pub values : (k : ℕ) → k < length (fixupsOf f) → valueAt (fixTableOf f base) k ≡ fixupValue f base k
   -- a call is refused for its position alone (14), and the answers follow from the calls and the list's count
-  pub refused : (number position : ℕ) → patchCode (PAGE-SIZE * pagesOf f) (marksOf f) base (fixesOf f base) number position ≡ plainCode (length (fixupsOf f)) position
+  pub refused : (number position : ℕ) → patchCode (PAGE-SIZE * pagesOf f) (marksOf f) base (fixTableOf f base) number position ≡ plainCode (length (fixupsOf f)) position
   pub answered : answersAfter f base calls ≡ plainAnswers (length (fixupsOf f)) calls
   -- every byte of the image is its origin's
   pub long : length (imageAfter f base calls) ≡ PAGE-SIZE * pagesOf f
@@ -97,7 +97,7 @@ module _ (f : List ℕ) (c : Counts) (accepted : surveyOf f ≡ Accepted c) wher
   exact : (k : ℕ) → k < length (fixupsOf f) → Exact (fixupAt f k)
   exact k l = fixups-exact f c accepted k noFixup l
 
-  placed : (k : ℕ) → k < length (fixupsOf f) → Placed f (fixupAt f k)
+  placed : (k : ℕ) → k < length (fixupsOf f) → FixupPlaced f (fixupAt f k)
   placed k l = record { bits = exact k l .bits; inside = fixups-inside f c accepted k noFixup l }
 
   image-long : (base : ℕ) → length (imageOf f base) ≡ PAGE-SIZE * pagesOf f
@@ -106,17 +106,17 @@ module _ (f : List ℕ) (c : Counts) (accepted : surveyOf f ≡ Accepted c) wher
       ∙ length-replicate (PAGE-SIZE * pagesOf f) 0
 
   module _ (base : ℕ) (ok : baseOk base ≡ true) where
-    only : (number position : ℕ) → patchCode (PAGE-SIZE * pagesOf f) (marksOf f) base (fixesOf f base) number position ≡ plainCode (fixCount (fixesOf f base)) position
+    only : (number position : ℕ) → patchCode (PAGE-SIZE * pagesOf f) (marksOf f) base (fixTableOf f base) number position ≡ plainCode (fixCount (fixTableOf f base)) position
     only = only-position f base (low base ok) few placed
 
-    writes : (calls : List Call) → imageAfter f base calls ≡ written base (fixesOf f base) (imageOf f base) (appliedTo f calls)
+    writes : (calls : List Call) → imageAfter f base calls ≡ writtenAt base (fixTableOf f base) (imageOf f base) (appliedTo f calls)
     writes calls =
-        let e = calls-write base (fixesOf f base) (marksOf f) (PAGE-SIZE * pagesOf f) only calls (imageOf f base) (image-long base) in
+        let e = calls-write base (fixTableOf f base) (marksOf f) (PAGE-SIZE * pagesOf f) only calls (imageOf f base) (image-long base) in
         rw (fixes-counted f base) at e
 
     answers-are : (calls : List Call) → answersAfter f base calls ≡ plainAnswers (length (fixupsOf f)) calls
     answers-are calls =
-        let e = answers-plain base (fixesOf f base) (marksOf f) (PAGE-SIZE * pagesOf f) only calls (imageOf f base) (image-long base) in
+        let e = answers-plain base (fixTableOf f base) (marksOf f) (PAGE-SIZE * pagesOf f) only calls (imageOf f base) (image-long base) in
         rw (fixes-counted f base) at e
 
     by-origin : (d : ℕ) → d < PAGE-SIZE * pagesOf f → (o : Option ℕ) → seen f base (low base ok) few placed (imageOf f base) d o ≡ byteOf f base (originBy f base (base + d) o)
@@ -155,7 +155,7 @@ module _ (f : List ℕ) (c : Counts) (accepted : surveyOf f ≡ Accepted c) wher
           values = λ k l. value-back f base (low base ok) few placed k l;
           refused = λ number position. only number position ∙ ap (λ (n : ℕ). plainCode n position) (fixes-counted f base);
           answered = answers-are calls;
-          long = ap (length {A = ℕ}) (writes calls) ∙ length-written base (fixesOf f base) (imageOf f base) (appliedTo f calls) ∙ image-long base;
+          long = ap (length {A = ℕ}) (writes calls) ∙ length-written base (fixTableOf f base) (imageOf f base) (appliedTo f calls) ∙ image-long base;
           bytes = λ d l.
               ap (λ (i : List ℕ). getD i d 0) (writes calls)
               ∙ written-byte f base (low base ok) few placed (appliedTo f calls) (imageOf f base) d (image-long base) (applied-below (length (fixupsOf f)) calls)

@@ -17,30 +17,28 @@ use Rattle.object.specs.Format.{headerOf}
 use Rattle.kinds.specs.Types.{type32, typeOf}
 use Rattle.object.specs.Section.{fileStart, fileEnd, extended, relocationRecords, relocationCount, relocationStart}
 use Rattle.kinds.specs.Flags.{loadedBy}
-use Rattle.object.specs.Symbol.{owed, primary}
+use Rattle.object.specs.Symbol.{leftAfter, auxiliariesLeft, primary, isSymbol}
 use Rattle.kinds.specs.Symbol.{isFunction, codeOrData, kindBy, zeroPlace, placeBy}
 use Rattle.names.specs.Bytes.{run, sameBytes}
 use Rattle.names.specs.Name.{nameBytes, symbolRun}
-use Rattle.layout.specs.Home.{firstIn, isHome, homeCell}
+use Rattle.homes.specs.Home.{firstIn, isHome, homeStart, sectionHome, byNumber}
 use Rattle.layout.specs.Layout.{startAt}
-use Rattle.lists.specs.Relocations.{FIXUP-BYTES, SKIP-BYTES}
-use Rattle.tables.specs.Externs.{EXTERN-BYTES}
-use Rattle.symbol_table.specs.Symbols.{SYMBOL-BYTES}
-use Rattle.tables.specs.Sections.{SECTION-BYTES}
+use Rattle.limits.specs.Limits.{FIXUP-BYTES, SKIP-BYTES, EXTERN-BYTES, SYMBOL-BYTES, SECTION-BYTES}
 use Rattle.externs.specs.Externs.{insertName, externRecords, externsTo}
 use Rattle.externs.specs.Puts.{putsBy, puts}
 use Rattle.externs.specs.Slot.{slotFrom}
-use Rattle.fixups.specs.Lists.{recordsTo, sectionsTo, fixAtRecord}
-use Rattle.fixups.specs.Outcome.{byKind, resolved, bySymbol, outcome}
-use Rattle.targets.specs.Target.{slotTarget, dataTarget, targetBy}
+use Rattle.fixups.specs.Lists.{overRecords, overSections, fixAtRecord}
+use Rattle.fixups.specs.Outcome.{byKind, resolved, bySymbol, ofHome, atHome, outcome}
+use Rattle.targets.specs.Target.{homeTarget, slotTarget, dataTarget, targetBy}
 use Rattle.survey.specs.declared.answer.Counts.{Counts}
-use Rattle.survey.specs.declared.answer.Survey.{Survey}
-use Rattle.survey.specs.declared.answer.Survey.the-variants.{Accepted, Refused}
-use Rattle.survey.specs.Survey.{firstFailed, checks, counts, answerBy, surveyOf}
+use Rattle.survey.specs.declared.answer.Survey.the-variants.{Accepted}
+use Rattle.survey.specs.Survey.{firstFailed, checks, counts, surveyOf}
 use Rattle.survey.specs.Acceptance.{IsFixed, no-skips-all-fixed}
-use Rattle.image.specs.MarkWords.{markCount}
+use Rattle.marks.specs.Marks.{WORD-BYTES, wordsFor}
 use Rattle.checks.specs.Checks.{baseOk}
-use Rattle.load.specs.Load.{Storage, layoutRoom, listsRoom, roomOk, stored, loadChecks, Loads}
+use Rattle.load.specs.declared.answer.Load.{Load}
+use Rattle.load.specs.declared.answer.Load.the-variants as load
+use Rattle.load.specs.Load.{Storage, layoutRoom, listsRoom, roomOk, stored, loadChecks, loadAnswer, Loads}
 use Rattle.load.specs.Loading.{storage}
 use Rattle.demands.specs.Calls.{Call, afterCalls}
 use Rattle.demands.specs.Origin.{fixupAt, fixupValue}
@@ -52,13 +50,13 @@ use Rattle.demands.specs.Table.{smallObject, smallWith, smallCounts, tab
 use Rattle.demands.specs.Demand1.{FirstFailure, survey-refuses, Refuses, load-refuses, load-does}
 
 -- ---- load's contract is met for every file, base and storage, by this answer and these contents
-abbrev pub answerOf : List ℕ → ℕ → Storage → Survey
-answerOf f base s = answerBy (firstFailed (loadChecks f (headerOf f) base s)) (counts f (headerOf f))
+abbrev pub loadSays : List ℕ → ℕ → Storage → Load
+loadSays f base s = loadAnswer (firstFailed (loadChecks f (headerOf f) base s)) (counts f (headerOf f))
 
 abbrev pub leftBy : List ℕ → ℕ → Storage → Storage
 leftBy f base s = pick (eqb (firstFailed (loadChecks f (headerOf f) base s)) 0) (stored f (headerOf f) base s) s
 
-pub loads-exists : (f : List ℕ) (base : ℕ) (s : Storage) → Loads f base s (leftBy f base s) (answerOf f base s)
+pub loads-exists : (f : List ℕ) (base : ℕ) (s : Storage) → Loads f base s (leftBy f base s) (loadSays f base s)
 loads-exists f base s = record { says = refl; leaves = refl }
 
 -- ---- refusals
@@ -67,8 +65,8 @@ pub small-refused : FirstFailure (checks (smallWith 12285) (headerOf (smallWith 
 small-refused = survey-refuses (smallWith 12285) 10 (table .past-the-end)
 
 -- any file and storage at base 0x7F001000: 12, and the storage is as it was
-pub base-loads : (f : List ℕ) (s : Storage) → Loads f 0x7F001000 s s (Refused 12)
-unfolding answerBy pick
+pub base-loads : (f : List ℕ) (s : Storage) → Loads f 0x7F001000 s s (load.Refused 12)
+unfolding loadAnswer pick
 base-loads f s = record { says = rw (table .base-refused f s); leaves = rw (table .base-refused f s) }
 
 pub base-refuses : (f : List ℕ) (s : Storage) → Refuses f 0x7F001000 s s 12
@@ -77,7 +75,7 @@ base-refuses f s = load-refuses f 0x7F001000 s s 11 (base-loads f s)
 -- ---- storage that has just the room
 abbrev pub roomy : Counts → Storage
 roomy c =
-    storage (replicate (PAGE-SIZE * c .pages) 0) (replicate (8 * markCount (c .pages)) 0) (replicate (SECTION-BYTES * c .sections) 0) (replicate (SYMBOL-BYTES * c .symbols) 0)
+    storage (replicate (PAGE-SIZE * c .pages) 0) (replicate (WORD-BYTES * wordsFor (c .pages)) 0) (replicate (SECTION-BYTES * c .sections) 0) (replicate (SYMBOL-BYTES * c .symbols) 0)
     (replicate (EXTERN-BYTES * c .externs) 0) (replicate (FIXUP-BYTES * c .fixups) 0) (replicate (SKIP-BYTES * c .skips) 0)
 
 room-in : (n : ℕ) → leb n (length {A = ℕ} (replicate n 0)) ≡ true
@@ -88,7 +86,7 @@ unfolding layoutRoom listsRoom
 roomy-fits c =
     rw (
       room-in (PAGE-SIZE * c .pages),
-      room-in (8 * markCount (c .pages)),
+      room-in (WORD-BYTES * wordsFor (c .pages)),
       room-in (SECTION-BYTES * c .sections),
       room-in (SYMBOL-BYTES * c .symbols),
       room-in (EXTERN-BYTES * c .externs),
@@ -98,9 +96,9 @@ roomy-fits c =
 
 -- ---- every file that survey accepts is loaded, at every allowed base, into every storage with room
 pub accepted-loads : (f : List ℕ) (base : ℕ) (s : Storage) (c : Counts) → surveyOf f ≡ Accepted c → baseOk base ≡ true → roomOk c s ≡ true
-    → Loads f base s (stored f (headerOf f) base s) (Accepted c)
+    → Loads f base s (stored f (headerOf f) base s) (load.Loaded c)
 accepted-loads f base s c a b r =
-    let d = load-does f base s (leftBy f base s) c a b r (answerOf f base s) (loads-exists f base s) in
+    let d = load-does f base s (leftBy f base s) c a b r (loadSays f base s) (loads-exists f base s) in
     record { says = sym (d .says); leaves = sym (d .leaves) }
 
 -- so is the small object at 0x20000000
@@ -114,7 +112,7 @@ small-base : baseOk 0x20000000 ≡ true
 unfolding baseOk
 small-base = refl
 
-pub small-loads : Loads smallObject 0x20000000 smallStorage smallLeft (Accepted smallCounts)
+pub small-loads : Loads smallObject 0x20000000 smallStorage smallLeft (load.Loaded smallCounts)
 small-loads = accepted-loads smallObject 0x20000000 smallStorage smallCounts (table .small) small-base (roomy-fits smallCounts)
 
 pub small-lends : Lends smallObject 0x20000000 smallLeft smallCounts
@@ -127,7 +125,7 @@ small-load-demand-3 = load-demand-3 smallObject 0x20000000 smallStorage smallLef
 -- ---- calls on what that load lends: every byte they leave is its origin's
 pub small-runs : (calls : List Call)
     → FromOrigins smallObject 0x20000000 calls
-    (afterCalls 0x20000000 (part (smallLeft .marks) 0 (8 * markCount (smallCounts .pages))) (part (smallLeft .fixups) 0 (FIXUP-BYTES * smallCounts .fixups))
+    (afterCalls 0x20000000 (part (smallLeft .marks) 0 (WORD-BYTES * wordsFor (smallCounts .pages))) (part (smallLeft .fixups) 0 (FIXUP-BYTES * smallCounts .fixups))
     (part (smallLeft .image) 0 (PAGE-SIZE * smallCounts .pages)) calls)
 small-runs calls =
     runs-are 0x20000000 _ _ calls _ _ refl .demand smallObject smallCounts (table .small) small-base
@@ -136,10 +134,10 @@ small-runs calls =
 -- ---- the small object's fixup, from relocation 0 of section 0: relative, by a symbol of value 0, over a field of zeros
 pub small-standard : (start : ℕ) → standardValue 0x20000000 (fixupAt smallObject 0) 0 0 start ≡ fixupValue smallObject 0x20000000 0
 unfolding pick listTo archOf get le part headerOf type32 typeOf loadedBy fileStart fileEnd
-    extended relocationRecords relocationCount relocationStart isFunction codeOrData kindBy zeroPlace placeBy owed primary
-    run sameBytes nameBytes symbolRun firstIn isHome homeCell startAt
-    insertName externRecords externsTo putsBy puts slotFrom recordsTo sectionsTo fixAtRecord byKind resolved bySymbol outcome
-    slotTarget dataTarget targetBy
+    extended relocationRecords relocationCount relocationStart isFunction codeOrData kindBy zeroPlace placeBy leftAfter auxiliariesLeft primary isSymbol
+    run sameBytes nameBytes symbolRun firstIn isHome homeStart sectionHome byNumber startAt
+    insertName externRecords externsTo putsBy puts slotFrom overRecords overSections fixAtRecord byKind resolved bySymbol ofHome atHome outcome
+    homeTarget slotTarget dataTarget targetBy
 small-standard start =
     let r : From smallObject (fixupAt smallObject 0) = record { section = 0; index = 0; inside = omega arith; counted = omega arith; is = refl } in
     standard-of-file smallObject smallCounts (table .small) 0x20000000 small-base 0 (omega arith) r (inr refl) refl refl start

@@ -18,7 +18,7 @@ use Rattle.object.specs.Section.{loaded, fileStart, fileEnd, rangeLength}
 use Rattle.layout.specs.Layout.{startAt, undefStart}
 use Rattle.layout.specs.LayoutLaws.{ranges-share-none}
 use Rattle.object.specs.SectionLaws.{file-range}
-use Rattle.checks.specs.Limits.{MAX-PAGES, MAX-EXTERNS}
+use Rattle.limits.specs.Limits.{MAX-PAGES, MAX-EXTERNS}
 use Rattle.image.specs.Laid.{laidImage}
 use Rattle.image.specs.LaidLaws.{laid-slot, laid-file, laid-zero}
 use Rattle.demands.specs.Origin.{slotByte, orElse, firstBelow, slotsOf, undefAddress, inSlots, sectionAddress, inSection, fileOrigin, laidOrigin, byteOf}

@@ -11,14 +11,12 @@ use Rattle.arch.specs.Page.{PAGE-SIZE}
 use Rattle.le.specs.Le.{part, part-at, length-part}
 use Rattle.object.specs.Format.{headerOf}
 use Rattle.layout.specs.Layout.{startsTo, undefStart}
-use Rattle.checks.specs.Limits.{MAX-PAGES, MAX-EXTERNS}
-use Rattle.lists.specs.Relocations.{FIXUP-BYTES}
-use Rattle.tables.specs.Externs.{EXTERN-BYTES}
-use Rattle.tables.specs.Sections.{SECTION-BYTES}
+use Rattle.limits.specs.Limits.{MAX-PAGES, MAX-EXTERNS, FIXUP-BYTES, EXTERN-BYTES, SECTION-BYTES}
 use Rattle.survey.specs.declared.answer.Counts.{Counts}
 use Rattle.survey.specs.declared.answer.Survey.the-variants.{Accepted}
+use Rattle.load.specs.declared.answer.Load.the-variants.{Loaded}
 use Rattle.survey.specs.Survey.{surveyOf}
-use Rattle.image.specs.MarkWords.{markCount}
+use Rattle.marks.specs.Marks.{WORD-BYTES, wordsFor}
 use Rattle.image.specs.Laid.{laidImage}
 use Rattle.image.specs.LaidLaws.{length-laid}
 use Rattle.checks.specs.Checks.{baseOk}
@@ -26,7 +24,7 @@ use Rattle.load.specs.Load.{Storage, Loads}
 use Rattle.load.specs.LoadLaws.{load-accepts, load-leaves, rooms, pages-counted}
 use Rattle.demands.specs.Origin.{slotsOf}
 use Rattle.demands.specs.Calls.{Call}
-use Rattle.demands.specs.Counted.{pagesOf, imageOf, marksOf, fixesOf, sectionsOf, externsOf}
+use Rattle.demands.specs.Counted.{pagesOf, imageOf, marksOf, fixTableOf, sectionsOf, externsOf}
 use Rattle.demands.specs.Demand3.{Demand3, demand-3}
 use Rattle.demands.specs.Laying.{laid-byte}
 
@@ -56,13 +54,13 @@ pub record Lends (f : List ℕ) (base : ℕ) (s′ : Storage) (c : Counts) : Typ
   pub accepted : surveyOf f ≡ Accepted c
   pub allowed : baseOk base ≡ true
   pub image : part (s′ .image) 0 (PAGE-SIZE * c .pages) ≡ imageOf f base
-  pub marks : part (s′ .marks) 0 (8 * markCount (c .pages)) ≡ marksOf f
-  pub fixes : part (s′ .fixups) 0 (FIXUP-BYTES * c .fixups) ≡ fixesOf f base
+  pub marks : part (s′ .marks) 0 (WORD-BYTES * wordsFor (c .pages)) ≡ marksOf f
+  pub fixes : part (s′ .fixups) 0 (FIXUP-BYTES * c .fixups) ≡ fixTableOf f base
   -- and those that say where the parts lie: the loaded sections and UNDEF, the names' slots
   pub sections : part (s′ .sections) 0 (SECTION-BYTES * c .sections) ≡ sectionsOf f base
   pub externs : part (s′ .externs) 0 (EXTERN-BYTES * c .externs) ≡ externsOf f base
 
-pub load-lends : (f : List ℕ) (base : ℕ) (s s′ : Storage) (c : Counts) → Loads f base s s′ (Accepted c) → Lends f base s′ c
+pub load-lends : (f : List ℕ) (base : ℕ) (s s′ : Storage) (c : Counts) → Loads f base s s′ (Loaded c) → Lends f base s′ c
 load-lends f base s s′ c loads =
     let a = load-accepts f base s s′ c loads in
     let l = load-leaves f base s s′ c loads in
@@ -79,7 +77,7 @@ load-lends f base s s′ c loads =
     }
 
 -- ---- demand 3 with load's own accepted answer for its hypothesis, and the same load at any other allowed base
-pub load-demand-3 : (f : List ℕ) (base : ℕ) (s s′ : Storage) (c : Counts) → Loads f base s s′ (Accepted c)
+pub load-demand-3 : (f : List ℕ) (base : ℕ) (s s′ : Storage) (c : Counts) → Loads f base s s′ (Loaded c)
     → (b₂ : ℕ) → baseOk b₂ ≡ true → (calls : List Call) → Demand3 f base b₂ calls
 load-demand-3 f base s s′ c loads b₂ ok calls =
     let l = load-lends f base s s′ c loads in

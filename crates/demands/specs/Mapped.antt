@@ -17,18 +17,18 @@ use Rattle.pagemap.specs.Pages.{storageOk, spanMapped}
 use Rattle.aspace.specs.Space.{reached, spanAt}
 use Rattle.object.specs.Format.{headerOf}
 use Rattle.object.specs.Section.{relocationCount}
-use Rattle.checks.specs.Limits.{MAX-PAGES, MAX-BASE}
+use Rattle.limits.specs.Limits.{MAX-PAGES, MAX-BASE, FIXUP-BYTES}
 use Rattle.fixups.specs.declared.Fix.{Fix}
 use Rattle.fixups.specs.Value.{valueOf}
 use Rattle.survey.specs.Survey.{outcomes}
-use Rattle.lists.specs.Relocations.{FIXUP-BYTES}
 use Rattle.lists.specs.RelocationLaws.{length-fixes, fix-place, fix-bits, fix-value}
-use Rattle.image.specs.MarkWords.{markCount}
-use Rattle.image.specs.MarkLaws.{length-marks, mark-spans, mark-storage}
+use Rattle.marks.specs.Marks.{WORD-BYTES, wordsFor}
+use Rattle.marks.specs.PutLaws.{length-marks}
+use Rattle.pagemap.specs.PageLaws.{mark-spans, mark-storage}
 use Rattle.patch.specs.Fixes.{fixCount, placeAt, bitsAt, valueAt, fixOk}
 use Rattle.patch.specs.Patch.{portion, portionOk, patchCode}
 use Rattle.demands.specs.Origin.{fixupsOf, fixupAt, noFixup}
-use Rattle.demands.specs.Counted.{pagesOf, marksOf, fixesOf}
+use Rattle.demands.specs.Counted.{pagesOf, marksOf, fixTableOf}
 use Rattle.demands.specs.Applying.{plainCode}
 
 -- a run put over itself
@@ -36,46 +36,46 @@ splice-self : (l : List ℕ) → splice l 0 l ≡ l
 splice-self l = splice-front l l (omega arith) ∙ ap (λ (t : List ℕ). l ++ t) (drop-length l) ∙ append-nil l
 
 -- ---- the fix list, read back
-pub record Placed (f : List ℕ) (x : Fix) : Type 0 where
+pub record FixupPlaced (f : List ℕ) (x : Fix) : Type 0 where
   pub bits : (x .bits ≡ 32) ⊎ (x .bits ≡ 64)
-  pub inside : x .place + x .bits / 8 ≤ PAGE-SIZE * pagesOf f
+  pub inside : x .place .0 + x .bits / 8 ≤ PAGE-SIZE * pagesOf f
 
-pub fixes-counted : (f : List ℕ) (base : ℕ) → fixCount (fixesOf f base) ≡ length (fixupsOf f)
+pub fixes-counted : (f : List ℕ) (base : ℕ) → fixCount (fixTableOf f base) ≡ length (fixupsOf f)
 fixes-counted f base =
-    let e : length (fixesOf f base) ≡ FIXUP-BYTES * length (fixupsOf f) = length-fixes base (outcomes f (headerOf f)) (relocationCount f (headerOf f)) (headerOf f .sections) in
+    let e : length (fixTableOf f base) ≡ FIXUP-BYTES * length (fixupsOf f) = length-fixes base (outcomes f (headerOf f)) (relocationCount f (headerOf f)) (headerOf f .sections) in
     omega arith
 
-module _ (f : List ℕ) (base : ℕ) (low : base ≤ MAX-BASE) (few : pagesOf f ≤ MAX-PAGES) (placed : (k : ℕ) → k < length (fixupsOf f) → Placed f (fixupAt f k)) where
+module _ (f : List ℕ) (base : ℕ) (low : base ≤ MAX-BASE) (few : pagesOf f ≤ MAX-PAGES) (placed : (k : ℕ) → k < length (fixupsOf f) → FixupPlaced f (fixupAt f k)) where
   module _ (k : ℕ) (inside : k < length (fixupsOf f)) where
-    room : FIXUP-BYTES * length (fixupsOf f) ≤ length (fixesOf f base)
+    room : FIXUP-BYTES * length (fixupsOf f) ≤ length (fixTableOf f base)
     room =
-        let e : length (fixesOf f base) ≡ FIXUP-BYTES * length (fixupsOf f) = length-fixes base (outcomes f (headerOf f)) (relocationCount f (headerOf f)) (headerOf f .sections) in
+        let e : length (fixTableOf f base) ≡ FIXUP-BYTES * length (fixupsOf f) = length-fixes base (outcomes f (headerOf f)) (relocationCount f (headerOf f)) (headerOf f .sections) in
         omega arith
 
-    pub place-fits : fixupAt f k .place + fixupAt f k .bits / 8 ≤ 2 ^ 24
+    pub place-fits : fixupAt f k .place .0 + fixupAt f k .bits / 8 ≤ 2 ^ 24
     place-fits = let p = (placed k inside) .inside in omega arith
 
-    pub place-back : placeAt (fixesOf f base) k ≡ base + fixupAt f k .place
+    pub place-back : placeAt (fixTableOf f base) k ≡ base + fixupAt f k .place .0
     place-back =
-        let t = fix-place base (outcomes f (headerOf f)) (relocationCount f (headerOf f)) (headerOf f .sections) k (fixesOf f base) noFixup room inside in
-        let e : placeAt (fixesOf f base) k ≡ (base + fixupAt f k .place) % 2 ^ 64 = rw (splice-self (fixesOf f base)) at t in
+        let t = fix-place base (outcomes f (headerOf f)) (relocationCount f (headerOf f)) (headerOf f .sections) k (fixTableOf f base) noFixup room inside in
+        let e : placeAt (fixTableOf f base) k ≡ (base + fixupAt f k .place .0) % 2 ^ 64 = rw (splice-self (fixTableOf f base)) at t in
         let q = place-fits in
         e ∙ omega arith
 
-    pub bits-back : bitsAt (fixesOf f base) k ≡ fixupAt f k .bits
+    pub bits-back : bitsAt (fixTableOf f base) k ≡ fixupAt f k .bits
     bits-back =
-        let t = fix-bits base (outcomes f (headerOf f)) (relocationCount f (headerOf f)) (headerOf f .sections) k (fixesOf f base) noFixup room inside in
-        let e : bitsAt (fixesOf f base) k ≡ fixupAt f k .bits % 2 ^ 64 = rw (splice-self (fixesOf f base)) at t in
+        let t = fix-bits base (outcomes f (headerOf f)) (relocationCount f (headerOf f)) (headerOf f .sections) k (fixTableOf f base) noFixup room inside in
+        let e : bitsAt (fixTableOf f base) k ≡ fixupAt f k .bits % 2 ^ 64 = rw (splice-self (fixTableOf f base)) at t in
         e ∙ ⊎-elim (λ n. rw n) (λ n. rw n) ((placed k inside) .bits)
 
-    pub value-back : valueAt (fixesOf f base) k ≡ valueOf base (fixupAt f k)
+    pub value-back : valueAt (fixTableOf f base) k ≡ valueOf base (fixupAt f k)
     value-back =
-        let t = fix-value base (outcomes f (headerOf f)) (relocationCount f (headerOf f)) (headerOf f .sections) k (fixesOf f base) noFixup room inside in
-        rw (splice-self (fixesOf f base)) at t
+        let t = fix-value base (outcomes f (headerOf f)) (relocationCount f (headerOf f)) (headerOf f .sections) k (fixTableOf f base) noFixup room inside in
+        rw (splice-self (fixTableOf f base)) at t
 
   -- ---- each is mapped
-  marks-room : 8 * markCount (pagesOf f) ≤ length (marksOf f)
-  marks-room = let e = length-marks (pagesOf f) (markCount (pagesOf f)) in omega arith
+  marks-room : WORD-BYTES * wordsFor (pagesOf f) ≤ length (marksOf f)
+  marks-room = let e = length-marks (pagesOf f) (wordsFor (pagesOf f)) in omega arith
 
   span-mapped : (o n : ℕ) → 0 < n → o + n ≤ PAGE-SIZE * pagesOf f → spanMapped (PAGE-SIZE * pagesOf f) (marksOf f) o n ≡ true
   span-mapped o n p h =
@@ -94,29 +94,29 @@ module _ (f : List ℕ) (base : ℕ) (low : base ≤ MAX-BASE) (few : pagesOf f 
       let b : leb (base + o + max n 1) (2 ^ 64) ≡ true = le-leb (base + o + max n 1) (2 ^ 64) (omega arith) in
       rw (a, b, d, span-mapped o n p h)
 
-  fix-mapped : (k : ℕ) → k < length (fixupsOf f) → fixOk (PAGE-SIZE * pagesOf f) (marksOf f) base (fixesOf f base) k ≡ true
+  fix-mapped : (k : ℕ) → k < length (fixupsOf f) → fixOk (PAGE-SIZE * pagesOf f) (marksOf f) base (fixTableOf f base) k ≡ true
   unfolding fixOk pick
   fix-mapped k inside =
       let p = placed k inside in
       rw (bits-back k inside, place-back k inside)
       (⊎-elim
-      (λ n. let h : fixupAt f k .place + 4 ≤ PAGE-SIZE * pagesOf f = let q : fixupAt f k .bits / 8 ≡ 4 = rw n in omega (arith, p .inside) in
-      rw (n, span-at (fixupAt f k .place) 4 (omega arith) (omega arith) h))
-      (λ n. let h : fixupAt f k .place + 8 ≤ PAGE-SIZE * pagesOf f = let q : fixupAt f k .bits / 8 ≡ 8 = rw n in omega (arith, p .inside) in
-      rw (n, span-at (fixupAt f k .place) 8 (omega arith) (omega arith) h))
+      (λ n. let h : fixupAt f k .place .0 + 4 ≤ PAGE-SIZE * pagesOf f = let q : fixupAt f k .bits / 8 ≡ 4 = rw n in omega (arith, p .inside) in
+      rw (n, span-at (fixupAt f k .place .0) 4 (omega arith) (omega arith) h))
+      (λ n. let h : fixupAt f k .place .0 + 8 ≤ PAGE-SIZE * pagesOf f = let q : fixupAt f k .bits / 8 ≡ 8 = rw n in omega (arith, p .inside) in
+      rw (n, span-at (fixupAt f k .place .0) 8 (omega arith) (omega arith) h))
       (p .bits))
 
-  portion-mapped : (number position : ℕ) → position ≤ fixCount (fixesOf f base)
-      → portionOk (PAGE-SIZE * pagesOf f) (marksOf f) base (fixesOf f base) position (portion (fixCount (fixesOf f base)) number position) ≡ true
+  portion-mapped : (number position : ℕ) → position ≤ fixCount (fixTableOf f base)
+      → portionOk (PAGE-SIZE * pagesOf f) (marksOf f) base (fixTableOf f base) position (portion (fixCount (fixTableOf f base)) number position) ≡ true
   portion-mapped number position h =
       let c = fixes-counted f base in
-      all-of (λ k. fixOk (PAGE-SIZE * pagesOf f) (marksOf f) base (fixesOf f base) (position + k)) (portion (fixCount (fixesOf f base)) number position)
+      all-of (λ k. fixOk (PAGE-SIZE * pagesOf f) (marksOf f) base (fixTableOf f base) (position + k)) (portion (fixCount (fixTableOf f base)) number position)
       (λ k l. fix-mapped (position + k) (omega arith))
 
-  pub only-position : (number position : ℕ) → patchCode (PAGE-SIZE * pagesOf f) (marksOf f) base (fixesOf f base) number position ≡ plainCode (fixCount (fixesOf f base)) position
+  pub only-position : (number position : ℕ) → patchCode (PAGE-SIZE * pagesOf f) (marksOf f) base (fixTableOf f base) number position ≡ plainCode (fixCount (fixTableOf f base)) position
   unfolding patchCode pick
   only-position number position =
       ⊎-elim
-      (λ b. rw (b, stored-well, portion-mapped number position (leb-true position (fixCount (fixesOf f base)) b)))
+      (λ b. rw (b, stored-well, portion-mapped number position (leb-true position (fixCount (fixTableOf f base)) b)))
       (λ b. rw b)
-      (yes-no (leb position (fixCount (fixesOf f base))))
+      (yes-no (leb position (fixCount (fixTableOf f base))))

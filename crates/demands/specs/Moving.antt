@@ -28,7 +28,7 @@ module _ (f : List ℕ) (b₁ b₂ d : ℕ) where
 
   covers-same : (k : ℕ) → covers f b₁ (b₁ + d) k ≡ covers f b₂ (b₂ + d) k
   unfolding covers
-  covers-same k = rw (below-same (fixupAt f k .place), above-same (fixupAt f k .place) (fixupWidth f b₁ k))
+  covers-same k = rw (below-same (fixupAt f k .place .0), above-same (fixupAt f k .place .0) (fixupWidth f b₁ k))
 
   latest-same : (ks : List ℕ) → latest f b₁ (b₁ + d) ks ≡ latest f b₂ (b₂ + d) ks
   unfolding latest
@@ -57,7 +57,7 @@ module _ (f : List ℕ) (b₁ b₂ d : ℕ) where
   by-same : (o : Option ℕ) → originBy f b₁ (b₁ + d) o ≡ originBy f b₂ (b₂ + d) o
   unfolding originBy
   by-same none = laid-same
-  by-same (some k) = rw (apart-same (fixupAt f k .place))
+  by-same (some k) = rw (apart-same (fixupAt f k .place .0))
 
   pub origin-same : (ks : List ℕ) → origin f b₁ ks (b₁ + d) ≡ origin f b₂ ks (b₂ + d)
   origin-same ks = ap (originBy f b₁ (b₁ + d)) (latest-same ks) ∙ by-same (latest f b₂ (b₂ + d) ks)

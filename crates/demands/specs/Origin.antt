@@ -5,12 +5,14 @@ use mathlib.Core.Option.{Option, none, some}
 use Prim.Native.Nat.{ℕ, zero, suc, _+_, _-_, _*_, _/_, _%_}
 use lib.Dec.{leb, ltb}
 use lib.ListN.{length, getD}
+use Rattle.arch.specs.Address.{rva}
 use Rattle.util.specs.Pick.{pick}
 use Rattle.le.specs.Le.{le}
 use Rattle.kinds.specs.declared.RelocationKind.the-variants.{Unknown}
 use Rattle.object.specs.Format.{headerOf}
 use Rattle.object.specs.Section.{loaded, fileStart, fileEnd, rangeLength, relocationCount}
-use Rattle.layout.specs.Layout.{SLOT-SIZE, startAt, undefStart}
+use Rattle.limits.specs.Limits.{SLOT-SIZE}
+use Rattle.layout.specs.Layout.{startAt, undefStart}
 use Rattle.externs.specs.Externs.{externs}
 use Rattle.fixups.specs.declared.Fix.{Fix}
 use Rattle.fixups.specs.Value.{valueOf}
@@ -39,7 +41,7 @@ abbrev pub fixupsOf : List ℕ → List Fix
 fixupsOf f = fixList (outcomes f (headerOf f)) (relocationCount f (headerOf f)) (headerOf f .sections)
 
 abbrev pub noFixup : Fix
-noFixup = record { place = 0; bits = 0; kind = Unknown; target = 0; addend = 0 }
+noFixup = record { place = rva 0; bits = 0; kind = Unknown; target = rva 0; addend = 0 }
 
 abbrev pub fixupAt : List ℕ → ℕ → Fix
 fixupAt f k = getD (fixupsOf f) k noFixup
@@ -50,11 +52,13 @@ slotsOf f = length (externs f (headerOf f))
 module _ (f : List ℕ) (base : ℕ) where
   -- ---- fixup k: its place's address, its bytes, its value
   abbrev pub fixupPlace : ℕ → ℕ
-  fixupPlace k = base + fixupAt f k .place
+  fixupPlace k = base + fixupAt f k .place .0
 
+  -- how many bytes it covers
   abbrev pub fixupWidth : ℕ → ℕ
   fixupWidth k = widthOf (fixupAt f k .bits)
 
+  -- and what they hold
   abbrev pub fixupValue : ℕ → ℕ
   fixupValue k = valueOf base (fixupAt f k)
 

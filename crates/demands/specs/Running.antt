@@ -13,7 +13,7 @@ use Rattle.survey.specs.Survey.{surveyOf}
 use Rattle.checks.specs.Checks.{baseOk}
 use Rattle.demands.specs.Calls.{Call, patch, afterCall, afterCalls}
 use Rattle.demands.specs.Origin.{origin, byteOf}
-use Rattle.demands.specs.Counted.{pagesOf, imageOf, marksOf, fixesOf}
+use Rattle.demands.specs.Counted.{pagesOf, imageOf, marksOf, fixTableOf}
 use Rattle.demands.specs.Demand3.{appliedTo, demand-3}
 
 -- a call is two words: how many fixups, and from which position
@@ -37,7 +37,7 @@ FromOrigins f base calls image = (d : ℕ) → d < PAGE-SIZE * pagesOf f → get
 -- what running the calls leaves; and if image, marks and fix list are those of an accepted load, demand 3 of it
 pub record Runs (base : ℕ) (marks fixes : List ℕ) (calls : List Call) (image image′ : List ℕ) : Type 0 where
   pub leaves : image′ ≡ afterCalls base marks fixes image calls
-  pub demand : (f : List ℕ) (c : Counts) → surveyOf f ≡ Accepted c → baseOk base ≡ true → image ≡ imageOf f base → marks ≡ marksOf f → fixes ≡ fixesOf f base
+  pub demand : (f : List ℕ) (c : Counts) → surveyOf f ≡ Accepted c → baseOk base ≡ true → image ≡ imageOf f base → marks ≡ marksOf f → fixes ≡ fixTableOf f base
       → FromOrigins f base calls image′
 
 pub runs-are : (base : ℕ) (marks fixes : List ℕ) (calls : List Call) (image image′ : List ℕ) → image′ ≡ afterCalls base marks fixes image calls → Runs base marks fixes calls image image′

@@ -6,27 +6,22 @@ use Prim.Native.Nat.{ℕ, _+_, _-_, _*_}
 use native.Mathlib.Omega.{arith}
 use lib.ListN.{length, getD}
 use Rattle.arch.specs.declared.Arch.the-variants.{X64}
+use Rattle.arch.specs.Address.{rva}
 use Rattle.survey.specs.declared.answer.Counts.{Counts}
 use Rattle.survey.specs.declared.answer.Survey.the-variants.{Accepted, Refused}
-use Rattle.survey.specs.Survey.{surveyOf, externChecks, homes}
-use Rattle.fixups.specs.Outcome.{fixOf}
+use Rattle.survey.specs.Survey.{surveyOf, externChecks, firstFailed, countsBy, answerBy}
+use Rattle.fixups.specs.Outcome.{fixOf, byKind, resolved, bySymbol, ofHome, atHome, outcome}
 use Rattle.tables.specs.Sections.{sectionWords, undefWords}
 use Rattle.symbol_table.specs.Symbols.{symbolWords}
 use Rattle.tables.specs.Externs.{externWords}
 use Rattle.lists.specs.Relocations.{fixWords}
-use Rattle.externs.specs.Externs.{externs}
-use Rattle.layout.specs.Layout.{undefStart}
-use Rattle.checks.specs.Checks.{baseOk}
+use Rattle.externs.specs.Externs.{externs, insertName, externRecords, externsTo}
+use Rattle.layout.specs.Layout.{undefStart, nextStart, startAt, startsTo}
+use Rattle.checks.specs.Checks.{baseOk, okAt, namesOk}
 use Rattle.load.specs.Load.{Storage, loadChecks}
 use Rattle.demands.specs.Calls.{Call, patch, upFrom, appliedBy, applied}
 use Rattle.demands.specs.Origin.{fixupAt, slotValue, undefAddress, covers, latest, originBy, byteOf}
 use Rattle.demands.specs.Demand3.{imageAfter, Demand3, demand-3}
-use Rattle.fixups.specs.Lists as lists
-use Rattle.fixups.specs.Tally as tallies
-use Rattle.object.specs.Symbol as objects
-use Rattle.checks.specs.Checks as checking
-use Rattle.layout.specs.Home as homing
-use Rattle.layout.specs.Layout as laying
 use Rattle.util.specs.Align.{roundUp}
 use Rattle.util.specs.Pick.{pick}
 use Rattle.util.specs.Prefix.{allTo, anyTo, sumTo, countTo, listTo}
@@ -36,23 +31,19 @@ use Rattle.object.specs.Format.{headerOf, stringLength}
 use Rattle.kinds.specs.Types.{type32, type64, typeOf}
 use Rattle.object.specs.Section.{fileStart, fileEnd, rangeLength, extended, relocationRecords, relocationCount, relocationStart}
 use Rattle.kinds.specs.Flags.{loadedBy, alignOf, permissionsBy}
-use Rattle.object.specs.Symbol.{owed, primary}
+use Rattle.object.specs.Symbol.{leftAfter, auxiliariesLeft, primary, isSymbol}
 use Rattle.kinds.specs.Symbol.{isFunction, codeOrData, staticKind, kindBy, zeroPlace, placeBy, listedBy}
 use Rattle.names.specs.Bytes.{run, goodSectionName, goodSymbolName, decimalTo, compareBytes, sameBytes}
 use Rattle.names.specs.Name.{nameBytes, longRun, symbolRun, slashRun, sectionRun, checked}
-use Rattle.layout.specs.Home.{firstIn, isHome, isNamed, homeStart, homeRecord, homeCell, recordsTo}
-use Rattle.layout.specs.Layout.{nextStart, startAt, nextRecord, startsTo}
-use Rattle.checks.specs.Checks.{sizeOk, sectionTableOk, stringsOk, symbolTableOk, bytesOk, dataOk, relocationsOk, sectionsOk, symbolFine, fineAt, namesOk, owedNext}
-use Rattle.externs.specs.Externs.{insertName, externRecords, externsTo}
+use Rattle.homes.specs.Home.{firstIn, isHome, loadedNamed, homeStart, homeRecord, sectionHome, byNumber, homeRecords}
+use Rattle.bounds.specs.Bounds.{sizeOk, sectionTableOk, stringsOk, symbolTableOk, bytesOk, dataOk, relocationsOk, sectionsOk}
 use Rattle.externs.specs.Puts.{putsBy, puts}
 use Rattle.externs.specs.Slot.{slotFrom}
-use Rattle.fixups.specs.Lists.{sectionsTo, fixAtRecord, skipAtRecord}
-use Rattle.fixups.specs.Outcome.{byKind, resolved, bySymbol, outcome}
-use Rattle.fixups.specs.Tally.{passes, tallyOf}
+use Rattle.fixups.specs.Lists.{overRecords, overSections, fixAtRecord, skipAtRecord}
+use Rattle.fixups.specs.Tally.{passes, countIn, tallyOf}
 use Rattle.targets.specs.Target.{homeTarget, slotTarget, namedTarget, labelTarget, dataTarget, sectionTarget, targetBy}
 use Rattle.fixups.specs.Value.{valueOf}
-use Rattle.survey.specs.Listed.{cellOf, listed}
-use Rattle.survey.specs.Survey.{firstFailed, countsBy, answerBy}
+use Rattle.homes.specs.Listed.{ofPlace, offsetFrom, listed}
 
 -- ---- the small object, with its relocation at a given offset of .text
 abbrev pub smallWith : ℕ → List ℕ
@@ -86,8 +77,8 @@ abbrev pub rangeOf : List ℕ → ℕ
 rangeOf f = rangeLength f (headerOf f) 0
 
 -- pages, records of the section table, symbols, externs, fixups; the file's sections, symbol records, relocations
-abbrev pub counted : ℕ → ℕ → ℕ → ℕ → ℕ → ℕ → ℕ → ℕ → Counts
-counted p s y e x n m r =
+abbrev pub countsWith : ℕ → ℕ → ℕ → ℕ → ℕ → ℕ → ℕ → ℕ → Counts
+countsWith p s y e x n m r =
     record {
       pages = p;
       sections = s;
@@ -102,35 +93,35 @@ counted p s y e x n m r =
     }
 
 abbrev pub smallCounts : Counts
-smallCounts = counted 3 2 1 1 1 1 2 1
+smallCounts = countsWith 3 2 1 1 1 1 2 1
 
 -- ---- the table
 pub record Table : Type 0 where
   -- the small object at 0x20000000: layout, symbol, slot, and the fixup with its value
   pub small : surveyOf smallObject ≡ Accepted smallCounts
-  pub small-text : sectionWords smallObject (headerOf smallObject) 0x20000000 (laying.startsTo smallObject (headerOf smallObject) 1) 0 ≡ 0x20000000 ∷ 0x20000010 ∷ 60 ∷ 66 ∷ 5 ∷ 20 ∷ 5 ∷ 1 ∷ []
+  pub small-text : sectionWords smallObject (headerOf smallObject) 0x20000000 (startsTo smallObject (headerOf smallObject) 1) 0 ≡ 0x20000000 ∷ 0x20000010 ∷ 60 ∷ 66 ∷ 5 ∷ 20 ∷ 5 ∷ 1 ∷ []
   pub small-undef : undefWords 0x20000000 (undefStart smallObject (headerOf smallObject)) ≡ 0x20001000 ∷ 0x20002000 ∷ 0 ∷ 0 ∷ 1 ∷ 0 ∷ 0 ∷ 0 ∷ []
-  pub small-symbol : symbolWords smallObject (headerOf smallObject) 0x20000000 (homes smallObject (headerOf smallObject)) (homing.recordsTo smallObject (headerOf smallObject) 1) 0 ≡ 0x20000000 ∷ 1 ∷ 76 ∷ 6 ∷ 0 ∷ 0 ∷ []
+  pub small-symbol : symbolWords smallObject (headerOf smallObject) 0x20000000 (sectionHome smallObject (headerOf smallObject)) (homeRecords smallObject (headerOf smallObject) 1) 0 ≡ 0x20000000 ∷ 1 ∷ 76 ∷ 6 ∷ 0 ∷ 0 ∷ []
   pub small-slot : externWords smallObject (headerOf smallObject) 0x20000000 (undefStart smallObject (headerOf smallObject)) (externs smallObject (headerOf smallObject)) 0 ≡ 0x20001000 ∷ 1 ∷ 94 ∷ 6 ∷ []
   pub small-fixup : fixWords 0x20000000 (fixupAt smallObject 0) ≡ 0x20000001 ∷ 32 ∷ 4091 ∷ []
   -- 19 bytes, whatever they are: 1
   pub bytes-19 : (f : List ℕ) → length f ≡ 19 → surveyOf f ≡ Refused 1
   -- an empty i386 header: 2 pages
-  pub empty : surveyOf emptyObject ≡ Accepted (counted 2 1 0 0 0 0 0 0)
+  pub empty : surveyOf emptyObject ≡ Accepted (countsWith 2 1 0 0 0 0 0 0)
   -- ranges by size and alignment code
   pub size-1-code-0 : rangeOf (sized 1 0) ≡ 16
   pub size-1-code-1 : rangeOf (sized 1 1) ≡ 1
   pub size-1-code-14 : rangeOf (sized 1 14) ≡ 8192
   pub size-4097-code-0 : rangeOf (sized 4097 0) ≡ 4112
   -- 4,094 section pages are accepted, 4,095 refused: 8
-  pub pages-4094 : surveyOf (sized (4096 * 4094) 1) ≡ Accepted (counted 4096 2 0 0 0 1 0 0)
+  pub pages-4094 : surveyOf (sized (4096 * 4094) 1) ≡ Accepted (countsWith 4096 2 0 0 0 1 0 0)
   pub pages-4095 : surveyOf (sized (4096 * 4095) 1) ≡ Refused 8
   -- 1,024 names pass, one more is 9; the last slot is at UNDEF + 4,092
   pub names-1024 : firstFailed (externChecks 1024) ≡ 0
   pub names-1025 : firstFailed (externChecks 1025) ≡ 9
   pub last-slot : (f : List ℕ) (base : ℕ) → slotValue f base (1024 - 1) ≡ undefAddress f base + 4092
   -- x64 type 9 from 0x20000010 to 0x20001000
-  pub type-9 : valueOf 0x20000000 (fixOf (typeOf X64 9) 0x10 0x1000) ≡ 4071
+  pub type-9 : valueOf 0x20000000 (fixOf (typeOf X64 9) (rva 0x10) (rva 0x1000)) ≡ 4071
   -- base 0x7F000000 is taken, 0x7F001000 refused, whatever the file and the storage: 12
   pub base-taken : baseOk 0x7F000000 ≡ true
   pub base-refused : (f : List ℕ) (s : Storage) → firstFailed (loadChecks f (headerOf f) 0x7F001000 s) ≡ 12
@@ -142,10 +133,10 @@ pub table : Table
 unfolding roundUp pick allTo anyTo sumTo countTo listTo archOf get le part headerOf stringLength type32 type64 typeOf loadedBy alignOf permissionsBy fileStart fileEnd
     rangeLength extended relocationRecords relocationCount relocationStart isFunction codeOrData staticKind kindBy zeroPlace placeBy listedBy primary
     run goodSectionName goodSymbolName decimalTo compareBytes sameBytes nameBytes longRun symbolRun slashRun sectionRun checked firstIn isHome
-    isNamed homeStart homeCell nextStart startAt nextRecord sizeOk sectionTableOk stringsOk symbolTableOk bytesOk dataOk relocationsOk sectionsOk
-    symbolFine fineAt namesOk insertName externRecords externsTo putsBy puts slotFrom sectionsTo fixAtRecord skipAtRecord byKind resolved bySymbol outcome
-    passes tallyOf homeTarget slotTarget namedTarget labelTarget dataTarget sectionTarget targetBy valueOf cellOf listed firstFailed countsBy answerBy
-    lists.recordsTo tallies.inSection objects.owed checking.owedNext homing.homeRecord sectionWords symbolWords
+    loadedNamed homeStart homeRecord sectionHome byNumber nextStart startAt sizeOk sectionTableOk stringsOk symbolTableOk bytesOk dataOk relocationsOk sectionsOk
+    okAt namesOk insertName externRecords externsTo putsBy puts slotFrom overSections fixAtRecord skipAtRecord byKind resolved bySymbol ofHome atHome outcome
+    passes tallyOf homeTarget slotTarget namedTarget labelTarget dataTarget sectionTarget targetBy valueOf ofPlace offsetFrom listed firstFailed countsBy answerBy
+    overRecords countIn leftAfter auxiliariesLeft isSymbol sectionWords symbolWords
     externWords fixWords baseOk
 table =
     record {
@@ -183,10 +174,10 @@ pub small-patched : getD (imageAfter smallObject 0x20000000 (patch 1 0 ∷ [])) 
 unfolding roundUp pick allTo anyTo sumTo countTo listTo archOf get le part headerOf stringLength type32 type64 typeOf loadedBy alignOf permissionsBy fileStart fileEnd
     rangeLength extended relocationRecords relocationCount relocationStart isFunction codeOrData staticKind kindBy zeroPlace placeBy listedBy primary
     run goodSectionName goodSymbolName decimalTo compareBytes sameBytes nameBytes longRun symbolRun slashRun sectionRun checked firstIn isHome
-    isNamed homeStart homeCell nextStart startAt nextRecord sizeOk sectionTableOk stringsOk symbolTableOk bytesOk dataOk relocationsOk sectionsOk
-    symbolFine fineAt namesOk insertName externRecords externsTo putsBy puts slotFrom sectionsTo fixAtRecord skipAtRecord byKind resolved bySymbol outcome
-    passes tallyOf homeTarget slotTarget namedTarget labelTarget dataTarget sectionTarget targetBy valueOf cellOf listed firstFailed countsBy answerBy
-    lists.recordsTo tallies.inSection objects.owed checking.owedNext homing.homeRecord sectionWords symbolWords
+    loadedNamed homeStart homeRecord sectionHome byNumber nextStart startAt sizeOk sectionTableOk stringsOk symbolTableOk bytesOk dataOk relocationsOk sectionsOk
+    okAt namesOk insertName externRecords externsTo putsBy puts slotFrom overSections fixAtRecord skipAtRecord byKind resolved bySymbol ofHome atHome outcome
+    passes tallyOf homeTarget slotTarget namedTarget labelTarget dataTarget sectionTarget targetBy valueOf ofPlace offsetFrom listed firstFailed countsBy answerBy
+    overRecords countIn leftAfter auxiliariesLeft isSymbol sectionWords symbolWords
     externWords fixWords baseOk
     appliedBy applied upFrom covers latest originBy byteOf
 small-patched = demand-3 smallObject smallCounts (table .small) 0x20000000 0x20000000 refl refl (patch 1 0 ∷ []) .one .bytes 1 (omega arith)

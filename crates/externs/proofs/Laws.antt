@@ -1,30 +1,17 @@
 -- The ways through the readers, and the loops over the list of externs. Assumes nothing.
+use Rattle.le.specs.Le.{splice, splice-next}
 use mathlib.Core.Path.{_≡_, refl, sym, ap, _∙_}
 use mathlib.Core.Bool.{Bool, true, false, not}
-use mathlib.Core.List.{List, [], _∷_, _++_, append-assoc}
+use mathlib.Core.List.{List, [], _∷_, _++_, append-assoc, append-nil}
 use mathlib.Core.Logic.{⊎-elim}
 use Prim.Native.Nat.{ℕ, zero, suc, _+_, _-_, _/_, _≤_, _<_, min}
 use native.Mathlib.Nat.{not-suc-le-zero}
 use native.Mathlib.Numerals.{add-one, sub-one}
 use native.Mathlib.Omega.{arith}
-use borrow.Author.Tests.{eq-eqb, ne-eqb}
-use lib.Dec.{eqb}
-use lib.ListN.{length, getD, take, drop, set, length-append, length-drop, drop-of-length-le, length-set}
-use lib.Seq.{
-  drop-cons,
-  take-suc,
-  take-take,
-  length-take-le,
-  getD-take,
-  take-set-le,
-  take-set-lt,
-  drop-set-lt,
-  getD-set-same,
-  set-split,
-  split-at,
-  take-at,
-  append-snoc,
-}
+use borrow.Author.Tests.{eq-eqb, ne-eqb, lt-leb, le-leb}
+use lib.Dec.{eqb, leb}
+use lib.ListN.{length, getD, take, drop, set, length-append, length-drop, drop-of-length-le, length-set, replicate, length-replicate, length-take, replicate-append-replicate}
+use lib.Seq.{drop-cons, take-suc, take-take, length-take-le, getD-take, take-set-le, take-set-lt, drop-set-lt, getD-set-same, set-split, split-at, take-at, append-snoc, sets-eq}
 use Rattle.util.specs.Pick.{pick, le-or-lt}
 use Rattle.object.specs.declared.Header.{Header}
 use Rattle.kinds.specs.declared.SymbolKind.{SymbolKind}
@@ -37,8 +24,9 @@ use Rattle.names.specs.declared.Order.{Order}
 use Rattle.names.specs.declared.Order.the-variants.{Less, Equal, Greater}
 use Rattle.names.specs.Bytes.{sameBytes, compareBytes}
 use Rattle.names.specs.Name.{symbolText}
-use Rattle.externs.specs.Puts.{sectionNamed, outside, missing, isCommon, putsBy, putsName, isOwn, puts}
-use Rattle.externs.specs.Externs.{insertName, externRecords, externsTo, Holds}
+use Rattle.externs.specs.Puts.{someSectionNamed, outside, missing, isCommon, putsBy, putsName, puts}
+use Rattle.limits.specs.Limits.{MAX-EXTERNS, EXTERN-ROOM}
+use Rattle.externs.specs.Externs.{insertName, externRecords, externsTo, Holds, namesOf, slotWords}
 use Rattle.externs.specs.ExternLaws.{records-grow, sections-grow, over-length, count-room, count-list}
 use Rattle.externs.specs.Held.{held, putAt, lowerAt, Placed, Inserted}
 use Rattle.externs.specs.Bisect.{nameOrder, bySide, halves}
@@ -47,11 +35,9 @@ use Rattle.externs.specs.declared.Names.the-variants.{TooMany, Count}
 use Rattle.externs.specs.declared.Spot.{Spot}
 use Rattle.externs.specs.declared.Spot.the-variants.{Before, Present}
 use Rattle.externs.specs.declared.Found.{Found}
-use Rattle.externs.specs.declared.Found.the-variants.{At, Nothing}
+use Rattle.externs.specs.declared.Found.the-variants.{Index, Nothing}
 
 -- ---- which relocations put a name
-pub own-is : (map : List ℕ) (j b : ℕ) → b ≡ getD map j 0 → eqb b 1 ≡ isOwn map j
-own-is map j b q = rw q
 
 module _ (f : List ℕ) (h : Header) (j : ℕ) (k : SymbolKind) (p : Place) (is : k ≡ kind f h j) (at : p ≡ symbolPlace f h j) where
   pub name-data : (b : Bool) → k ≡ Data → b ≡ outside p → b ≡ putsName f h j
@@ -62,7 +48,7 @@ module _ (f : List ℕ) (h : Header) (j : ℕ) (k : SymbolKind) (p : Place) (is 
   unfolding putsBy
   name-text b e q = rw (← is, ← at, e) q
 
-  pub name-missing : (b c : Bool) (s : List ℕ) → k ≡ Section → b ≡ missing p → b ≡ true → s ≡ symbolText f h j → c ≡ sectionNamed f h s → not c ≡ putsName f h j
+  pub name-missing : (b c : Bool) (s : List ℕ) → k ≡ Section → b ≡ missing p → b ≡ true → s ≡ symbolText f h j → c ≡ someSectionNamed f h s → not c ≡ putsName f h j
   unfolding putsBy
   name-missing b c s e q t w r = rw (← is, ← at, ← w, ← r, e, ← q, t)
 
@@ -83,14 +69,14 @@ module _ (f : List ℕ) (h : Header) (j : ℕ) (k : SymbolKind) (is : k ≡ kind
   unfolding putsBy
   name-label e = rw (← is, e)
 
-module _ (f : List ℕ) (h : Header) (map : List ℕ) (i k j : ℕ) (o : Bool) (is : j ≡ relocationSymbol f h i k) (own : o ≡ isOwn map j) where
-  pub puts-own : (b : Bool) → o ≡ true → b ≡ putsName f h j → b ≡ puts f h map i k
+module _ (f : List ℕ) (h : Header) (own : ℕ → Bool) (i k j : ℕ) (o : Bool) (is : j ≡ relocationSymbol f h i k) (mine : o ≡ own j) where
+  pub puts-own : (b : Bool) → o ≡ true → b ≡ putsName f h j → b ≡ puts f h own i k
   unfolding puts
-  puts-own b t q = rw (← is, ← own, t) q
+  puts-own b t q = rw (← is, ← mine, t) q
 
-  pub puts-other : o ≡ false → false ≡ puts f h map i k
+  pub puts-other : o ≡ false → false ≡ puts f h own i k
   unfolding puts
-  puts-other t = rw (← is, ← own, t)
+  puts-other t = rw (← is, ← mine, t)
 
 pub ruleset name-ways = (name-data, name-text, name-missing, name-section, name-unknown, name-file, name-label)
 
@@ -274,11 +260,11 @@ unfolding held
 held-length n l h = length-take-le n l h
 
 module _ (ys l : List ℕ) where
-  pub holds-over : 1024 < length ys → Holds ys l TooMany
+  pub holds-over : MAX-EXTERNS < length ys → Holds ys l TooMany
   unfolding Holds
   holds-over k = k
 
-  pub holds-count : (n : ℕ) → n ≤ 1024 → held n l ≡ ys → Holds ys l (Count n)
+  pub holds-count : (n : ℕ) → n ≤ MAX-EXTERNS → held n l ≡ ys → Holds ys l (Count n)
   unfolding Holds held
   holds-count n k e = (k, e)
 
@@ -287,67 +273,67 @@ module _ (ys l : List ℕ) where
   held-list r n q e = count-list ys l r q n e
 
 -- ---- the relocations of a section
-module _ (f : List ℕ) (h : Header) (map : List ℕ) (i : ℕ) (xs : List ℕ) where
-  pub records-none : xs ≡ externRecords f h map i xs 0
+module _ (f : List ℕ) (h : Header) (own : ℕ → Bool) (i : ℕ) (xs : List ℕ) where
+  pub records-none : xs ≡ externRecords f h own i xs 0
   unfolding externRecords
   records-none = refl
 
-  pub records-pass : (k n : ℕ) (l : List ℕ) (b : Bool) → b ≡ puts f h map i k → b ≡ false → held n l ≡ externRecords f h map i xs k
-      → held n l ≡ externRecords f h map i xs (k + 1)
+  pub records-pass : (k n : ℕ) (l : List ℕ) (b : Bool) → b ≡ puts f h own i k → b ≡ false → held n l ≡ externRecords f h own i xs k
+      → held n l ≡ externRecords f h own i xs (k + 1)
   unfolding externRecords pick
   records-pass k n l b e t q = rw (add-one, ← e, t) q
 
   module _ (k j n r : ℕ) (l a : List ℕ) (b : Bool) where
-    pub records-more : b ≡ puts f h map i k → b ≡ true → j ≡ relocationSymbol f h i k → held n l ≡ externRecords f h map i xs k → Inserted f h j l n a r
-        → held r a ≡ externRecords f h map i xs (k + 1)
+    pub records-more : b ≡ puts f h own i k → b ≡ true → j ≡ relocationSymbol f h i k → held n l ≡ externRecords f h own i xs k → Inserted f h j l n a r
+        → held r a ≡ externRecords f h own i xs (k + 1)
     unfolding externRecords pick
     records-more p t e q y = rw (add-one, ← p, t, ← e, ← q) (y .list)
 
-    pub records-over : (m t : ℕ) (z : List ℕ) → k < m → m ≡ t → b ≡ puts f h map i k → b ≡ true → j ≡ relocationSymbol f h i k
-        → held n l ≡ externRecords f h map i xs k → Inserted f h j l n a r → n ≤ 1024 → 1024 < length l → length a ≡ length l → 1024 < r
-        → Holds (externRecords f h map i xs t) z TooMany
+    pub records-over : (m t : ℕ) (z : List ℕ) → k < m → m ≡ t → b ≡ puts f h own i k → b ≡ true → j ≡ relocationSymbol f h i k
+        → held n l ≡ externRecords f h own i xs k → Inserted f h j l n a r → n ≤ MAX-EXTERNS → MAX-EXTERNS < length l → length a ≡ length l → MAX-EXTERNS < r
+        → Holds (externRecords f h own i xs t) z TooMany
     records-over m t z lt is p w e q y few room same over =
-        holds-over (externRecords f h map i xs t) z
+        holds-over (externRecords f h own i xs t) z
         (omega (
           arith,
           held-length r a (omega (arith, y .room)),
           ap length (records-more p w e q y),
-          records-grow f h map i xs (k + 1) t (omega arith),
+          records-grow f h own i xs (k + 1) t (omega arith),
         ))
 
-  pub records-end : (k m t n : ℕ) (l : List ℕ) → k ≤ m → m ≤ k → m ≡ t → n ≤ 1024 → held n l ≡ externRecords f h map i xs k → Holds (externRecords f h map i xs t) l (Count n)
-  records-end k m t n l a b z few q = let e : k ≡ t = omega arith in holds-count (externRecords f h map i xs t) l n few (rw e at q)
+  pub records-end : (k m t n : ℕ) (l : List ℕ) → k ≤ m → m ≤ k → m ≡ t → n ≤ MAX-EXTERNS → held n l ≡ externRecords f h own i xs k → Holds (externRecords f h own i xs t) l (Count n)
+  records-end k m t n l a b z few q = let e : k ≡ t = omega arith in holds-count (externRecords f h own i xs t) l n few (rw e at q)
 
 pub ruleset records-loop = (records-none, records-pass, records-more, records-over, records-end)
 
 -- ---- of all sections
-module _ (f : List ℕ) (h : Header) (map : List ℕ) where
-  externs-suc : (i n : ℕ) (l : List ℕ) → held n l ≡ externsTo f h map i → externsTo f h map (i + 1) ≡ externRecords f h map i (held n l) (relocationCount f h i)
+module _ (f : List ℕ) (h : Header) (own : ℕ → Bool) where
+  externs-suc : (i n : ℕ) (l : List ℕ) → held n l ≡ externsTo f h own i → externsTo f h own (i + 1) ≡ externRecords f h own i (held n l) (relocationCount f h i)
   unfolding externsTo
   externs-suc i n l q = rw (add-one, q)
 
-  pub externs-none : (l : List ℕ) → held 0 l ≡ externsTo f h map 0
+  pub externs-none : (l : List ℕ) → held 0 l ≡ externsTo f h own 0
   unfolding externsTo held
   externs-none l = refl
 
   module _ (i n : ℕ) (l a : List ℕ) (r : Names) where
-    pub externs-more : (c : ℕ) → held n l ≡ externsTo f h map i → Holds (externRecords f h map i (held n l) (relocationCount f h i)) a r → r ≡ Count c
-        → held c a ≡ externsTo f h map (i + 1)
-    externs-more c q y e = held-list (externRecords f h map i (held n l) (relocationCount f h i)) a r c y e ∙ sym (externs-suc i n l q)
+    pub externs-more : (c : ℕ) → held n l ≡ externsTo f h own i → Holds (externRecords f h own i (held n l) (relocationCount f h i)) a r → r ≡ Count c
+        → held c a ≡ externsTo f h own (i + 1)
+    externs-more c q y e = held-list (externRecords f h own i (held n l) (relocationCount f h i)) a r c y e ∙ sym (externs-suc i n l q)
 
-    pub externs-over : (m t : ℕ) (b : List ℕ) → i < m → m ≡ t → held n l ≡ externsTo f h map i
-        → Holds (externRecords f h map i (held n l) (relocationCount f h i)) a r → r ≡ TooMany → Holds (externsTo f h map t) b TooMany
+    pub externs-over : (m t : ℕ) (b : List ℕ) → i < m → m ≡ t → held n l ≡ externsTo f h own i
+        → Holds (externRecords f h own i (held n l) (relocationCount f h i)) a r → r ≡ TooMany → Holds (externsTo f h own t) b TooMany
     externs-over m t b lt z q y e =
-        holds-over (externsTo f h map t) b
+        holds-over (externsTo f h own t) b
         (omega (
           arith,
-          over-length (externRecords f h map i (held n l) (relocationCount f h i)) a r y e,
+          over-length (externRecords f h own i (held n l) (relocationCount f h i)) a r y e,
           ap length (externs-suc i n l q),
-          sections-grow f h map (i + 1) t (omega arith),
+          sections-grow f h own (i + 1) t (omega arith),
         ))
 
-  pub externs-end : (i m t n : ℕ) (l : List ℕ) → i ≤ m → m ≤ i → m ≡ t → n ≤ 1024 → held n l ≡ externsTo f h map i → Holds (externsTo f h map t) l (Count n)
-  externs-end i m t n l a b z few q = let e : i ≡ t = omega arith in holds-count (externsTo f h map t) l n few (rw e at q)
+  pub externs-end : (i m t n : ℕ) (l : List ℕ) → i ≤ m → m ≤ i → m ≡ t → n ≤ MAX-EXTERNS → held n l ≡ externsTo f h own i → Holds (externsTo f h own t) l (Count n)
+  externs-end i m t n l a b z few q = let e : i ≡ t = omega arith in holds-count (externsTo f h own t) l n few (rw e at q)
 
 pub ruleset externs-loop = (externs-none, externs-more, externs-over, externs-end, count-room)
 
@@ -374,7 +360,7 @@ module _ (f : List ℕ) (h : Header) (name list : List ℕ) where
   -- a turn of the loop
   halves-turn : (lo n : ℕ) (o : Order) → 0 < n → o ≡ nameOrder f h name (getD list (lo + n / 2) 0)
       → halves f h list name n lo n
-      ≡ bySide o (halves f h list name (n / 2) lo (n / 2)) (At (lo + n / 2)) (halves f h list name (n - n / 2 - 1) (lo + n / 2 + 1) (n - n / 2 - 1))
+      ≡ bySide o (halves f h list name (n / 2) lo (n / 2)) (Index (lo + n / 2)) (halves f h list name (n - n / 2 - 1) (lo + n / 2 + 1) (n - n / 2 - 1))
   unfolding halves pick
   halves-turn lo n o k e =
       let s : halves f h list name n lo n ≡ halves f h list name (suc n) lo n = halves-enough n (suc n) lo n (omega arith) (omega arith) in
@@ -386,7 +372,7 @@ module _ (f : List ℕ) (h : Header) (name list : List ℕ) where
     pub half-left : o ≡ Less → halves f h list name n lo n ≡ x → halves f h list name (n / 2) lo (n / 2) ≡ x
     half-left t q = rw t at (sym (halves-turn lo n o more e)) ∙ q
 
-    pub half-here : o ≡ Equal → halves f h list name n lo n ≡ x → At (lo + n / 2) ≡ x
+    pub half-here : o ≡ Equal → halves f h list name n lo n ≡ x → Index (lo + n / 2) ≡ x
     half-here t q = rw t at (sym (halves-turn lo n o more e)) ∙ q
 
     pub half-right : o ≡ Greater → halves f h list name n lo n ≡ x → halves f h list name (n - n / 2 - 1) (lo + n / 2 + 1) (n - n / 2 - 1) ≡ x
@@ -403,3 +389,59 @@ same-by s t name p q = rw (← q) p
 
 pub order-by : (name s t : List ℕ) {r : Order} → r ≡ compareBytes name s → s ≡ t → r ≡ compareBytes name t
 order-by name s t p q = rw (← q) p
+
+-- ---- zeros behind the list
+module _ (l : List ℕ) (from : ℕ) where
+  pub clear-none : l ≡ splice l from (replicate (from - from) 0)
+  unfolding splice
+  clear-none = let e : from - from ≡ 0 = omega arith in rw e
+
+  pub clear-again : (b c : List ℕ) (i : ℕ) → from ≤ i → b ≡ splice l from (replicate (i - from) 0) → c ≡ splice b i (0 ∷ []) → c ≡ splice l from (replicate (i + 1 - from) 0)
+  clear-again b c i k e d =
+      let n : i + 1 - from ≡ i - from + 1 = omega arith in
+      let z : length {A = ℕ} (replicate (i - from) 0) ≡ i - from = length-replicate {A = ℕ} (i - from) 0 in
+      let w : i ≡ from + length {A = ℕ} (replicate (i - from) 0) = omega arith in
+      d ∙ ap (λ (m : List ℕ). splice m i (0 ∷ [])) e ∙ splice-next l from (replicate (i - from) 0) (0 ∷ []) i w
+      ∙ ap (splice l from) (replicate-append-replicate {A = ℕ} (i - from) 1 0 ∙ ap (λ (m : ℕ). replicate {A = ℕ} m 0) (sym n))
+
+  pub clear-end : (b : List ℕ) (i n : ℕ) → from ≤ i → i - from ≤ n - from → n ≤ i → n ≡ length l → b ≡ splice l from (replicate (i - from) 0) → b ≡ splice l from (replicate (length l - from) 0)
+  clear-end b i n a k m q e = let z : i - from ≡ length l - from = omega arith in e ∙ ap (λ (j : ℕ). splice l from (replicate {A = ℕ} j 0)) z
+
+pub ruleset clear-loop = (clear-none, clear-again, clear-end)
+
+cleared : (l : List ℕ) (n : ℕ) → n ≤ length l → splice l n (replicate (length l - n) 0) ≡ take n l ++ replicate (length l - n) 0
+unfolding splice
+cleared l n k =
+    let z : length {A = ℕ} (replicate (length l - n) 0) ≡ length l - n = length-replicate {A = ℕ} (length l - n) 0 in
+    let w : n + length {A = ℕ} (replicate (length l - n) 0) ≡ length l = omega arith in
+    sets-eq (replicate (length l - n) 0) l n (omega arith) ∙ rw (w, drop-of-length-le l (let y : length l ≤ length l = omega arith in y), append-nil)
+
+pub record Collected (ys s : List ℕ) (r : Names) : Type 0 where
+  pub says : r ≡ namesOf ys
+  pub words : s ≡ slotWords ys
+  pub long : length s ≡ EXTERN-ROOM
+
+module _ (ys s t : List ℕ) (r : Names) (holds : Holds ys s r) (room : length s ≡ EXTERN-ROOM) where
+  pub kept-over : r ≡ TooMany → t ≡ splice s 0 (replicate (length s - 0) 0) → Collected ys t TooMany
+  unfolding slotWords pick
+  kept-over e d =
+      let z : leb (length ys) MAX-EXTERNS ≡ false = lt-leb (length ys) MAX-EXTERNS (over-length ys s r holds e) in
+      let w : t ≡ replicate EXTERN-ROOM 0 = rw room at (d ∙ cleared s 0 (omega arith)) in
+      record { says = rw z; words = rw z w; long = rw w (length-replicate {A = ℕ} EXTERN-ROOM 0) }
+
+  pub kept-few : (n : ℕ) → r ≡ Count n → t ≡ splice s n (replicate (length s - n) 0) → Collected ys t (Count n)
+  unfolding slotWords pick
+  kept-few n e d =
+      let few = count-room ys s r holds n e in
+      let list = count-list ys s r holds n e in
+      let c : length (take n s) ≡ n = rw (length-take n s) (omega arith) in
+      let m : length ys ≡ n = rw list at c in
+      let z : leb (length ys) MAX-EXTERNS ≡ true = le-leb (length ys) MAX-EXTERNS (omega arith) in
+      let w : t ≡ ys ++ replicate (EXTERN-ROOM - n) 0 = rw (list, room) at (d ∙ cleared s n (omega arith)) in
+      record {
+        says = rw (z, m);
+        words = rw (z, m) w;
+        long = rw (w, length-append, length-replicate {A = ℕ}) (omega arith);
+      }
+
+pub ruleset kept = (kept-over, kept-few)

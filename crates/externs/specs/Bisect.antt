@@ -10,7 +10,7 @@ use Rattle.names.specs.declared.Order.the-variants.{Less, Equal, Greater}
 use Rattle.names.specs.Bytes.{compareBytes}
 use Rattle.names.specs.Name.{symbolText}
 use Rattle.externs.specs.declared.Found.{Found}
-use Rattle.externs.specs.declared.Found.the-variants.{At, Nothing}
+use Rattle.externs.specs.declared.Found.the-variants.{Index, Nothing}
 
 -- the order of a name and symbol x's
 abbrev pub nameOrder : List ℕ → Header → List ℕ → ℕ → Order
@@ -29,7 +29,7 @@ halves f h list name (suc turns) lo n =
     pick (eqb n 0) Nothing
     (bySide (nameOrder f h name (getD list (lo + n / 2) 0))
     (halves f h list name turns lo (n / 2))
-    (At (lo + n / 2))
+    (Index (lo + n / 2))
     (halves f h list name turns (lo + n / 2 + 1) (n - n / 2 - 1)))
 
 -- the index of the name in a sorted list of symbol numbers

@@ -1,5 +1,6 @@
 -- The search in halves finds the slot: in every sorted list it answers as the plain search does, so in the list of externs.
 use mathlib.Core.Path.{_≡_, refl, sym, ap, _∙_}
+use mathlib.Core.Bool.{Bool}
 use mathlib.Core.List.{List}
 use mathlib.Core.Logic.{⊎-elim}
 use Prim.Native.Nat.{ℕ, zero, suc, _+_, _-_, _/_, _≤_, _<_}
@@ -14,7 +15,7 @@ use Rattle.names.specs.Bytes.{compareBytes}
 use Rattle.names.specs.Name.{symbolText}
 use Rattle.names.specs.OrderLaws.{equal-same, less-not-self, less-less, greater-less}
 use Rattle.externs.specs.declared.Found.{Found}
-use Rattle.externs.specs.declared.Found.the-variants.{At, Nothing}
+use Rattle.externs.specs.declared.Found.the-variants.{Index, Nothing}
 use Rattle.externs.specs.Externs.{externsBy}
 use Rattle.externs.specs.Slot.{slotOf}
 use Rattle.externs.specs.SlotLaws.{slot-of-entry, slot-inside, slot-named}
@@ -32,7 +33,7 @@ module _ (f : List ℕ) (h : Header) (list name : List ℕ) where
   slot-none lo w = by-found (slotOf f h list name) refl
     where
       by-found : (s : Found) → slotOf f h list name ≡ s → Nothing ≡ s
-      by-found (At e) q =
+      by-found (Index e) q =
           let k = w e (slot-inside f h name list e q) (slot-named f h name list e q) in
           absurd (omega arith)
       by-found Nothing q = refl
@@ -58,21 +59,21 @@ module _ (f : List ℕ) (h : Header) (list name : List ℕ) where
         (⊎-elim (λ q. absurd (less-not-self b (rw q at p))) (λ q. q))
         (three-ways e m)
 
-    here : nameOrder f h name (getD list m 0) ≡ Equal → m < length list → At m ≡ slotOf f h list name
+    here : nameOrder f h name (getD list m 0) ≡ Equal → m < length list → Index m ≡ slotOf f h list name
     here o inside =
         let n : name ≡ symbolText f h (getD list m 0) = equal-same name (symbolText f h (getD list m 0)) o in
         let s = slot-of-entry f h name list m inside (sym n) in
         let z : m ≡ s .index = rising-once f h list m (s .index) r inside (s .inside) (sym n ∙ sym (s .named)) in
-        ap At z ∙ sym (s .found)
+        ap Index z ∙ sym (s .found)
 
   -- one turn, from what the two halves answer
   turn-slot : Rising f h list → (lo n : ℕ) (left right : Found) → 0 < n → lo + n ≤ length list → Within lo n
       → (Within lo (n / 2) → left ≡ slotOf f h list name)
       → (Within (lo + n / 2 + 1) (n - n / 2 - 1) → right ≡ slotOf f h list name)
-      → bySide (nameOrder f h name (getD list (lo + n / 2) 0)) left (At (lo + n / 2)) right ≡ slotOf f h list name
+      → bySide (nameOrder f h name (getD list (lo + n / 2) 0)) left (Index (lo + n / 2)) right ≡ slotOf f h list name
   turn-slot r lo n left right more fits w on-left on-right = by-order (nameOrder f h name (getD list (lo + n / 2) 0)) refl
     where
-      by-order : (o : Order) → nameOrder f h name (getD list (lo + n / 2) 0) ≡ o → bySide o left (At (lo + n / 2)) right ≡ slotOf f h list name
+      by-order : (o : Order) → nameOrder f h name (getD list (lo + n / 2) 0) ≡ o → bySide o left (Index (lo + n / 2)) right ≡ slotOf f h list name
       by-order Less o = on-left (λ e p q. (w e p q .0, before r (lo + n / 2) e o p q))
       by-order Equal o = here r (lo + n / 2) o (omega arith)
       by-order Greater o =
@@ -94,5 +95,5 @@ module _ (f : List ℕ) (h : Header) (list name : List ℕ) where
   bisect-slot r = halves-slot r (length list) 0 (length list) (omega arith) (omega arith) (λ e p q. (omega arith, omega arith))
 
 -- so it does in the list of a file's externs
-pub bisect-externs : (f : List ℕ) (h : Header) (map name : List ℕ) → bisect f h (externsBy f h map) name ≡ slotOf f h (externsBy f h map) name
-bisect-externs f h map name = bisect-slot f h (externsBy f h map) name (externs-rise f h map)
+pub bisect-externs : (f : List ℕ) (h : Header) (own : ℕ → Bool) (name : List ℕ) → bisect f h (externsBy f h own) name ≡ slotOf f h (externsBy f h own) name
+bisect-externs f h own name = bisect-slot f h (externsBy f h own) name (externs-rise f h own)

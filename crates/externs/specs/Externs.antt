@@ -1,18 +1,20 @@
 -- The extern list: symbol numbers in the order of their names, each name once, with the lowest number that put it there (01, "Layout, slots and fixups").
-use mathlib.Core.List.{List, [], _∷_}
+use mathlib.Core.Bool.{Bool}
+use mathlib.Core.List.{List, [], _∷_, _++_}
 use mathlib.Core.Path.{_≡_}
-use Prim.Native.Nat.{ℕ, zero, suc, _≤_, _<_, min}
-use lib.ListN.{length, take}
+use Prim.Native.Nat.{ℕ, zero, suc, _-_, _≤_, _<_, min}
+use lib.Dec.{leb}
+use lib.ListN.{length, take, replicate}
 use Rattle.util.specs.Pick.{pick}
 use Rattle.object.specs.declared.Header.{Header}
 use Rattle.object.specs.Section.{relocationCount}
-use Rattle.object.specs.Symbol.{primaries}
+use Rattle.object.specs.Symbol.{isSymbol}
 use Rattle.object.specs.Relocation.{relocationSymbol}
 use Rattle.names.specs.declared.Order.{Order}
 use Rattle.names.specs.declared.Order.the-variants.{Less, Equal, Greater}
 use Rattle.names.specs.Bytes.{compareBytes}
 use Rattle.names.specs.Name.{symbolText}
-use Rattle.checks.specs.Limits.{MAX-EXTERNS}
+use Rattle.limits.specs.Limits.{MAX-EXTERNS, EXTERN-ROOM}
 use Rattle.externs.specs.declared.Names.{Names}
 use Rattle.externs.specs.declared.Names.the-variants.{TooMany, Count}
 use Rattle.externs.specs.Puts.{puts}
@@ -31,25 +33,32 @@ unfoldable pub insertName : List ℕ → Header → ℕ → List ℕ → List �
 insertName f h j [] = j ∷ []
 insertName f h j (x ∷ xs) = byOrder (orderOf f h j x) (j ∷ x ∷ xs) (min j x ∷ xs) (x ∷ insertName f h j xs)
 
--- the list after the first k records of section i, which found xs
-unfoldable pub externRecords : List ℕ → Header → List ℕ → ℕ → List ℕ → ℕ → List ℕ
-externRecords f h map i xs zero = xs
-externRecords f h map i xs (suc k) =
-    pick (puts f h map i k) (insertName f h (relocationSymbol f h i k) (externRecords f h map i xs k)) (externRecords f h map i xs k)
+-- the list after the first k records of section i, which found xs; `own` says which records are symbols' own
+unfoldable pub externRecords : List ℕ → Header → (ℕ → Bool) → ℕ → List ℕ → ℕ → List ℕ
+externRecords f h own i xs zero = xs
+externRecords f h own i xs (suc k) =
+    pick (puts f h own i k) (insertName f h (relocationSymbol f h i k) (externRecords f h own i xs k)) (externRecords f h own i xs k)
 
 -- after the first i sections: the relocations of all sections, loaded or not, in section and record order
-unfoldable pub externsTo : List ℕ → Header → List ℕ → ℕ → List ℕ
-externsTo f h map zero = []
-externsTo f h map (suc i) = externRecords f h map i (externsTo f h map i) (relocationCount f h i)
+unfoldable pub externsTo : List ℕ → Header → (ℕ → Bool) → ℕ → List ℕ
+externsTo f h own zero = []
+externsTo f h own (suc i) = externRecords f h own i (externsTo f h own i) (relocationCount f h i)
 
-abbrev pub externsBy : List ℕ → Header → List ℕ → List ℕ
-externsBy f h map = externsTo f h map (h .sections)
+abbrev pub externsBy : List ℕ → Header → (ℕ → Bool) → List ℕ
+externsBy f h own = externsTo f h own (h .sections)
 
 -- the extern list of a file
 abbrev pub externs : List ℕ → Header → List ℕ
-externs f h = externsBy f h (primaries f h (h .symbols))
+externs f h = externsBy f h (isSymbol f h)
+
+-- how many names there are, or that there are too many; and the words that keep the list: zeros behind it, and nothing of one that is too long
+abbrev pub namesOf : List ℕ → Names
+namesOf ys = pick (leb (length ys) MAX-EXTERNS) (Count (length ys)) TooMany
+
+unfoldable pub slotWords : List ℕ → List ℕ
+slotWords ys = pick (leb (length ys) MAX-EXTERNS) (ys ++ replicate (EXTERN-ROOM - length ys) 0) (replicate EXTERN-ROOM 0)
 
 -- what a buffer that holds at most as many numbers as there may be names says of the list: too many, or its first n are the list
 unfoldable pub Holds : List ℕ → List ℕ → Names → Type 0
-Holds ys set TooMany = MAX-EXTERNS < length ys
-Holds ys set (Count n) = (n ≤ MAX-EXTERNS) × (take n set ≡ ys)
+Holds ys slots TooMany = MAX-EXTERNS < length ys
+Holds ys slots (Count n) = (n ≤ MAX-EXTERNS) × (take n slots ≡ ys)

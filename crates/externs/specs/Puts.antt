@@ -2,8 +2,6 @@
 use mathlib.Core.Bool.{Bool, true, false, _&&_, not}
 use mathlib.Core.List.{List}
 use Prim.Native.Nat.{ℕ}
-use lib.Dec.{eqb}
-use lib.ListN.{getD}
 use Rattle.util.specs.Prefix.{anyTo}
 use Rattle.object.specs.declared.Header.{Header}
 use Rattle.kinds.specs.declared.SymbolKind.{SymbolKind}
@@ -16,11 +14,11 @@ use Rattle.names.specs.Bytes.{sameBytes}
 use Rattle.names.specs.Name.{sectionText, symbolText}
 
 -- some file section, loaded or not, has that name
-abbrev pub hasName : List ℕ → Header → List ℕ → ℕ → Bool
-hasName f h name i = sameBytes (sectionText f h i) name
+abbrev pub sectionIsNamed : List ℕ → Header → List ℕ → ℕ → Bool
+sectionIsNamed f h name i = sameBytes (sectionText f h i) name
 
-abbrev pub sectionNamed : List ℕ → Header → List ℕ → Bool
-sectionNamed f h name = anyTo (hasName f h name) (h .sections)
+abbrev pub someSectionNamed : List ℕ → Header → List ℕ → Bool
+someSectionNamed f h name = anyTo (sectionIsNamed f h name) (h .sections)
 
 -- data and text that are undefined, common or of unknown place
 abbrev pub outside : Place → Bool
@@ -59,12 +57,8 @@ putsBy Label p taken = false
 
 -- symbol j's name, if a relocation names it
 abbrev pub putsName : List ℕ → Header → ℕ → Bool
-putsName f h j = putsBy (kind f h j) (symbolPlace f h j) (sectionNamed f h (symbolText f h j))
+putsName f h j = putsBy (kind f h j) (symbolPlace f h j) (someSectionNamed f h (symbolText f h j))
 
--- number j is a symbol's own record: `map` has a byte a record, 1 for those (`primaries`); a number past the records is none
-abbrev pub isOwn : List ℕ → ℕ → Bool
-isOwn map j = eqb (getD map j 0) 1
-
--- relocation k of section i puts its symbol's name, whatever its type; one that names an auxiliary record puts none
-unfoldable pub puts : List ℕ → Header → List ℕ → ℕ → ℕ → Bool
-puts f h map i k = isOwn map (relocationSymbol f h i k) && putsName f h (relocationSymbol f h i k)
+-- relocation k of section i puts its symbol's name, whatever its type; one that names no symbol's own record puts none
+unfoldable pub puts : List ℕ → Header → (ℕ → Bool) → ℕ → ℕ → Bool
+puts f h own i k = own (relocationSymbol f h i k) && putsName f h (relocationSymbol f h i k)

@@ -7,16 +7,16 @@ use Rattle.object.specs.declared.Header.{Header}
 use Rattle.names.specs.Bytes.{sameBytes}
 use Rattle.names.specs.Name.{symbolText}
 use Rattle.externs.specs.declared.Found.{Found}
-use Rattle.externs.specs.declared.Found.the-variants.{At, Nothing}
+use Rattle.externs.specs.declared.Found.the-variants.{Index, Nothing}
 
 -- symbol x has that name
-abbrev pub isNamed : List ℕ → Header → List ℕ → ℕ → Bool
-isNamed f h name x = sameBytes (symbolText f h x) name
+abbrev pub symbolHasName : List ℕ → Header → List ℕ → ℕ → Bool
+symbolHasName f h name x = sameBytes (symbolText f h x) name
 
 -- the first that has the name, in what is left of the list from index i
 unfoldable pub slotFrom : List ℕ → Header → List ℕ → ℕ → List ℕ → Found
 slotFrom f h name i [] = Nothing
-slotFrom f h name i (x ∷ xs) = pick (isNamed f h name x) (At i) (slotFrom f h name (suc i) xs)
+slotFrom f h name i (x ∷ xs) = pick (symbolHasName f h name x) (Index i) (slotFrom f h name (suc i) xs)
 
 -- the first index of the list of symbol numbers whose symbol has the name
 abbrev pub slotOf : List ℕ → Header → List ℕ → List ℕ → Found

@@ -4,12 +4,14 @@ use kinds::SymbolKind;
 use names::Order;
 use object::Header;
 ghost use mathlib.Core.Path.{_≡_};
-ghost use Prim.Native.Nat.{_+_, _≤_, _<_};
-ghost use lib.ListN.{length};
+ghost use Prim.Native.Nat.{_+_, _-_, _≤_, _<_};
+ghost use lib.ListN.{length, replicate};
+ghost use Rattle.le.specs.Le.{splice};
 ghost use Rattle.object.specs.Section.{relocationCount};
-ghost use Rattle.checks.specs.Limits.{MAX-EXTERNS};
-ghost use Rattle.externs.specs.Puts.{hasName, sectionNamed, outside, missing, isCommon, putsName, isOwn, puts};
-ghost use Rattle.externs.specs.Externs.{externRecords, externsBy, Holds};
+ghost use Rattle.object.specs.Symbol.{isOwn};
+ghost use Rattle.limits.specs.Limits.{MAX-EXTERNS, EXTERN-ROOM};
+ghost use Rattle.externs.specs.Puts.{sectionIsNamed, someSectionNamed, outside, missing, isCommon, putsName, puts};
+ghost use Rattle.externs.specs.Externs.{externRecords, externsBy, namesOf, slotWords, Holds};
 ghost use Rattle.externs.specs.Held.{held, putAt, lowerAt, Placed, Inserted};
 ghost use Rattle.externs.specs.Bisect.{nameOrder, bisect};
 
@@ -21,7 +23,7 @@ pub enum Names {
 
 // The slot of a name, if it has one.
 pub enum Found {
-    At(usize),
+    Index(usize),
     Nothing,
 }
 
@@ -31,32 +33,25 @@ enum Spot {
     Present(usize),
 }
 
-fn has_name(f: &[u8], h: Header, name: &[u8], i: u32) -> bool
-    ensures { λ r. ⌜ r ≡ hasName (now (f .entry)) h (now (name .entry)) i ⌝ }
+fn section_is_named(f: &[u8], h: Header, name: &[u8], i: u32) -> bool
+    ensures { λ r. ⌜ r ≡ sectionIsNamed (now (f .entry)) h (now (name .entry)) i ⌝ }
 {
     names::same(names::section_text(f, h, i), name)
 }
 
 // Some file section, loaded or not, has that name.
-pub fn section_named(f: &[u8], h: Header, name: &[u8]) -> bool
-    ensures { λ r. ⌜ r ≡ sectionNamed (now (f .entry)) h (now (name .entry)) ⌝ }
+pub fn some_section_named(f: &[u8], h: Header, name: &[u8]) -> bool
+    ensures { λ r. ⌜ r ≡ someSectionNamed (now (f .entry)) h (now (name .entry)) ⌝ }
 {
     let n = h.sections as u32;
     let mut i: u32 = 0;
     while i < n {
-        if has_name(f, h, name, i) {
+        if section_is_named(f, h, name, i) {
             return true;
         }
         i += 1;
     }
     false
-}
-
-// Number j is a symbol's own record, by the map of primaries.
-pub fn is_own(map: &[u8], j: u32) -> bool
-    ensures { λ r. ⌜ r ≡ isOwn (now (map .entry)) j ⌝ }
-{
-    le::byte_at(map, j as usize) == 1
 }
 
 // Symbol j's name goes among the externs, if a relocation names it.
@@ -69,7 +64,7 @@ fn puts_name(f: &[u8], h: Header, j: u32) -> bool
         SymbolKind::Text => is_outside(place),
         SymbolKind::Section => {
             if is_missing(place) {
-                !section_named(f, h, names::symbol_text(f, h, j))
+                !some_section_named(f, h, names::symbol_text(f, h, j))
             } else {
                 false
             }
@@ -120,11 +115,11 @@ fn is_common(p: Place) -> bool
 }
 
 // Relocation k of section i puts its symbol's name there.
-fn puts(f: &[u8], h: Header, map: &[u8], i: u32, k: u32) -> bool
-    ensures { λ r. ⌜ r ≡ puts (now (f .entry)) h (now (map .entry)) i k ⌝ }
+fn puts(f: &[u8], h: Header, own: &[u8], i: u32, k: u32) -> bool
+    ensures { λ r. ⌜ r ≡ puts (now (f .entry)) h (isOwn (now (own .entry))) i k ⌝ }
 {
     let j = object::relocation_symbol(f, h, i, k);
-    if is_own(map, j) {
+    if object::is_own(own, j) {
         puts_name(f, h, j)
     } else {
         false
@@ -139,14 +134,14 @@ fn name_order(f: &[u8], h: Header, name: &[u8], x: u32) -> Order
 }
 
 // Where j goes among the first n, or where its name is.
-fn find(f: &[u8], h: Header, set: &[u32], n: usize, j: u32) -> Spot
-    requires { ⌜ n ≤ length (now set) ⌝ }
-    ensures { λ r. ⌜ Placed (now (f .entry)) h j n (held n (now (set .entry))) r ⌝ }
+fn find(f: &[u8], h: Header, slots: &[u32], n: usize, j: u32) -> Spot
+    requires { ⌜ n ≤ length (now slots) ⌝ }
+    ensures { λ r. ⌜ Placed (now (f .entry)) h j n (held n (now (slots .entry))) r ⌝ }
 {
     let name = names::symbol_text(f, h, j);
     let mut p = 0;
     while p < n {
-        match name_order(f, h, name, set[p]) {
+        match name_order(f, h, name, slots[p]) {
             Order::Less => {
                 return Spot::Before(p);
             }
@@ -162,58 +157,58 @@ fn find(f: &[u8], h: Header, set: &[u32], n: usize, j: u32) -> Spot
 }
 
 // Makes room at p among the first n, and puts j there.
-fn put(set: &mut [u32], n: usize, p: usize, j: u32)
-    requires { ⌜ (n < length (now set)) × (p ≤ n) ⌝ }
-    ensures { λ r. ⌜ held (n + 1) (now (set .exit)) ≡ putAt p j (held n (now (set .entry))) ⌝ }
+fn put(slots: &mut [u32], n: usize, p: usize, j: u32)
+    requires { ⌜ (n < length (now slots)) × (p ≤ n) ⌝ }
+    ensures { λ r. ⌜ held (n + 1) (now (slots .exit)) ≡ putAt p j (held n (now (slots .entry))) ⌝ }
 {
     let mut q = n;
     while p < q {
-        set[q] = set[q - 1];
+        slots[q] = slots[q - 1];
         q -= 1;
     }
-    set[p] = j;
+    slots[p] = j;
 }
 
 // Of two symbols with one name, the lower number stays at p.
-fn lower(set: &mut [u32], n: usize, p: usize, j: u32)
-    requires { ⌜ (n < length (now set)) × (p < n) ⌝ }
-    ensures { λ r. ⌜ held n (now (set .exit)) ≡ lowerAt p j (held n (now (set .entry))) ⌝ }
+fn lower(slots: &mut [u32], n: usize, p: usize, j: u32)
+    requires { ⌜ (n < length (now slots)) × (p < n) ⌝ }
+    ensures { λ r. ⌜ held n (now (slots .exit)) ≡ lowerAt p j (held n (now (slots .entry))) ⌝ }
 {
-    if j < set[p] {
-        set[p] = j;
+    if j < slots[p] {
+        slots[p] = j;
     }
 }
 
-fn insert(f: &[u8], h: Header, set: &mut [u32], n: usize, j: u32) -> usize
-    requires { ⌜ n < length (now set) ⌝ }
-    ensures { λ r. ⌜ Inserted (now (f .entry)) h j (now (set .entry)) n (now (set .exit)) r ⌝ }
+fn insert(f: &[u8], h: Header, slots: &mut [u32], n: usize, j: u32) -> usize
+    requires { ⌜ n < length (now slots) ⌝ }
+    ensures { λ r. ⌜ Inserted (now (f .entry)) h j (now (slots .entry)) n (now (slots .exit)) r ⌝ }
 {
-    let spot = find(f, h, set, n, j);
+    let spot = find(f, h, slots, n, j);
     match spot {
         Spot::Before(p) => {
-            put(set, n, p, j);
+            put(slots, n, p, j);
             n + 1
         }
         Spot::Present(p) => {
-            lower(set, n, p, j);
+            lower(slots, n, p, j);
             n
         }
     }
 }
 
 // Inserts what the relocations of section i put into the first n.
-fn add_records(f: &[u8], h: Header, map: &[u8], set: &mut [u32], n: usize, i: u32) -> Names
-    requires { ⌜ (n ≤ MAX-EXTERNS) × (MAX-EXTERNS < length (now set)) ⌝ }
+fn add_records(f: &[u8], h: Header, own: &[u8], slots: &mut [u32], n: usize, i: u32) -> Names
+    requires { ⌜ (n ≤ MAX-EXTERNS) × (MAX-EXTERNS < length (now slots)) ⌝ }
     ensures { λ r.
-        ⌜ Holds (externRecords (now (f .entry)) h (now (map .entry)) i (held n (now (set .entry))) (relocationCount (now (f .entry)) h i)) (now (set .exit)) r ⌝ }
+        ⌜ Holds (externRecords (now (f .entry)) h (isOwn (now (own .entry))) i (held n (now (slots .entry))) (relocationCount (now (f .entry)) h i)) (now (slots .exit)) r ⌝ }
 {
     let m = object::relocation_count(f, h, i);
     let mut count = n;
     let mut k: u32 = 0;
     while k < m {
-        if puts(f, h, map, i, k) {
-            let r = insert(f, h, set, count, object::relocation_symbol(f, h, i, k));
-            if checks::MAX_EXTERNS < r {
+        if puts(f, h, own, i, k) {
+            let r = insert(f, h, slots, count, object::relocation_symbol(f, h, i, k));
+            if limits::MAX_EXTERNS < r {
                 return Names::TooMany;
             }
             count = r;
@@ -225,15 +220,15 @@ fn add_records(f: &[u8], h: Header, map: &[u8], set: &mut [u32], n: usize, i: u3
     Names::Count(count)
 }
 
-fn fill(f: &[u8], h: Header, map: &[u8], set: &mut [u32]) -> Names
-    requires { ⌜ MAX-EXTERNS < length (now set) ⌝ }
-    ensures { λ r. ⌜ Holds (externsBy (now (f .entry)) h (now (map .entry))) (now (set .exit)) r ⌝ }
+fn fill(f: &[u8], h: Header, own: &[u8], slots: &mut [u32]) -> Names
+    requires { ⌜ MAX-EXTERNS < length (now slots) ⌝ }
+    ensures { λ r. ⌜ Holds (externsBy (now (f .entry)) h (isOwn (now (own .entry)))) (now (slots .exit)) r ⌝ }
 {
     let m = h.sections as u32;
     let mut count: usize = 0;
     let mut i: u32 = 0;
     while i < m {
-        match add_records(f, h, map, set, count, i) {
+        match add_records(f, h, own, slots, count, i) {
             Names::TooMany => {
                 return Names::TooMany;
             }
@@ -246,30 +241,53 @@ fn fill(f: &[u8], h: Header, map: &[u8], set: &mut [u32]) -> Names
     Names::Count(count)
 }
 
-// The names of all relocations, into `set`; the answer says how many of its first numbers are the list.
-// The length is said again for a caller, who knows no more of a lent array than this.
-pub fn collect(f: &[u8], h: Header, map: &[u8], set: &mut [u32; 1025]) -> Names
-    ensures { λ r. ⌜ Holds (externsBy (now (f .entry)) h (now (map .entry))) (now (set .exit)) r ⌝ }
-    ensures { λ r. ⌜ length (now (set .exit)) ≡ MAX-EXTERNS + 1 ⌝ }
+// Zeros from `from` on.
+fn clear(slots: &mut [u32], from: usize)
+    ensures { λ _. ⌜ now (slots .exit) ≡ splice (now (slots .entry)) from (replicate (length (now (slots .entry)) - from) 0) ⌝ }
 {
-    fill(f, h, map, set)
+    let n = slots.len();
+    let mut i = from;
+    while i < n {
+        le::put_word(slots, i, 0);
+        i += 1;
+    }
+}
+
+// The names of all relocations, into `slots`, and how many they are; where they are too many nothing is kept.
+// The length is said again for a caller, who knows no more of a lent array than this.
+pub fn collect(f: &[u8], h: Header, own: &[u8], slots: &mut [u32; limits::EXTERN_ROOM]) -> Names
+    ensures { λ r. ⌜ r ≡ namesOf (externsBy (now (f .entry)) h (isOwn (now (own .entry)))) ⌝ }
+    ensures { λ r. ⌜ now (slots .exit) ≡ slotWords (externsBy (now (f .entry)) h (isOwn (now (own .entry)))) ⌝ }
+    ensures { λ r. ⌜ length (now (slots .exit)) ≡ EXTERN-ROOM ⌝ }
+{
+    let found = fill(f, h, own, slots);
+    match found {
+        Names::TooMany => {
+            clear(slots, 0);
+            Names::TooMany
+        }
+        Names::Count(n) => {
+            clear(slots, n);
+            Names::Count(n)
+        }
+    }
 }
 
 // The slot of a name: its index in the list of externs, which is sorted. Of the n entries from lo the middle one decides.
-pub fn slot_of(f: &[u8], h: Header, set: &[u32], name: &[u8]) -> Found
-    ensures { λ r. ⌜ r ≡ bisect (now (f .entry)) h (now (set .entry)) (now (name .entry)) ⌝ }
+pub fn slot_of(f: &[u8], h: Header, slots: &[u32], name: &[u8]) -> Found
+    ensures { λ r. ⌜ r ≡ bisect (now (f .entry)) h (now (slots .entry)) (now (name .entry)) ⌝ }
 {
     let mut lo: usize = 0;
-    let mut n = set.len();
+    let mut n = slots.len();
     while 0 < n {
         let half = n / 2;
         let middle = lo + half;
-        match name_order(f, h, name, set[middle]) {
+        match name_order(f, h, name, slots[middle]) {
             Order::Less => {
                 n = half;
             }
             Order::Equal => {
-                return Found::At(middle);
+                return Found::Index(middle);
             }
             Order::Greater => {
                 lo = middle + 1;

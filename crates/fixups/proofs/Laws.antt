@@ -2,11 +2,9 @@
 use mathlib.Core.Path.{_≡_}
 use mathlib.Core.Bool.{Bool, true, false}
 use mathlib.Core.List.{List}
-use Prim.Native.Nat.{ℕ, _+_, _-_, _<_, _%_, _^_}
+use Prim.Native.Nat.{ℕ, _+_, _<_, _%_, _^_}
 use native.Mathlib.Omega.{arith}
 use lib.Dec.{leb}
-use lib.ListN.{getD}
-use borrow.Author.Tests.{eq-eqb, ne-eqb}
 use Rattle.util.specs.Pick.{pick}
 use Rattle.object.specs.declared.Header.{Header}
 use Rattle.kinds.specs.declared.SymbolKind.the-variants.{Unknown}
@@ -14,21 +12,26 @@ use Rattle.kinds.specs.declared.Place.the-variants.{Absolute}
 use Rattle.object.specs.Symbol.{kind}
 use Rattle.externs.specs.declared.Found.{Found}
 use Rattle.arch.specs.declared.Arch.{Arch}
+use Rattle.arch.specs.declared.RVA.{RVA}
+use Rattle.arch.specs.declared.Offset.{Offset}
+use Rattle.arch.specs.declared.Offset.the-variants.{At, None}
+use Rattle.arch.specs.Address.{rva}
 use Rattle.kinds.specs.declared.RelocationKind.{RelocationKind}
 use Rattle.kinds.specs.declared.RelocationKind.the-variants as reloc
 use Rattle.kinds.specs.declared.RelocationType.{RelocationType}
 use Rattle.object.specs.Relocation.{relocationAddress, relocationSymbol, relocationType}
 use Rattle.kinds.specs.Types.{typeOf}
-use Rattle.externs.specs.Puts.{isOwn}
+use Rattle.homes.specs.Home.{Low}
 use Rattle.fixups.specs.declared.Fix.{Fix}
 use Rattle.fixups.specs.declared.Outcome.{Outcome}
-use Rattle.fixups.specs.declared.Outcome.the-variants.{Passed, Skipped, TurnedDown, Fixup}
-use Rattle.fixups.specs.Outcome.{byKind, fixAt, resolved, bySymbol, outcome}
+use Rattle.fixups.specs.declared.Outcome.the-variants.{Passed, Skipped, Refused, Fixup}
+use Rattle.fixups.specs.Outcome.{byKind, fixAt, resolved, bySymbol, ofHome, atHome, outcome}
 use Rattle.fixups.specs.Value.{isRelative, valueOf}
 use Rattle.targets.specs.declared.Skip.{Skip}
 use Rattle.targets.specs.declared.Skip.the-variants.{NoSymbol, NoType}
 use Rattle.targets.specs.declared.Target.{Target}
-use Rattle.targets.specs.declared.Target.the-variants.{Home, Named, Slot, Missing, Refused}
+use Rattle.targets.specs.declared.Target.the-variants as target
+use Rattle.targets.specs.declared.Target.the-variants.{Home, Named, Slot, Missing}
 use Rattle.targets.specs.Target.{targetOf}
 
 -- ---- outcomes
@@ -49,7 +52,7 @@ module _ (k : RelocationKind) (x : Fix) where
   unfolding byKind
   by-relative e = rw e
 
-  pub by-not-carried : k ≡ reloc.NotCarried → TurnedDown ≡ byKind k x
+  pub by-not-carried : k ≡ reloc.NotCarried → Refused ≡ byKind k x
   unfolding byKind
   by-not-carried e = rw e
 
@@ -59,16 +62,16 @@ module _ (k : RelocationKind) (x : Fix) where
 
 pub ruleset kind-ways = (by-absolute, by-image, by-section, by-relative, by-not-carried, by-unknown)
 
-module _ (g : Target) (t : RelocationType) (place : ℕ) where
-  pub resolved-home : (o : ℕ) (r : Outcome) → g ≡ Home o → r ≡ fixAt t place o → r ≡ resolved g t place
+module _ (g : Target) (t : RelocationType) (place : RVA) where
+  pub resolved-home : (o : RVA) (r : Outcome) → g ≡ Home o → r ≡ fixAt t place o → r ≡ resolved g t place
   unfolding resolved
   resolved-home o r e q = rw e q
 
-  pub resolved-named : (o : ℕ) (r : Outcome) → g ≡ Named o → r ≡ fixAt t place o → r ≡ resolved g t place
+  pub resolved-named : (o : RVA) (r : Outcome) → g ≡ Named o → r ≡ fixAt t place o → r ≡ resolved g t place
   unfolding resolved
   resolved-named o r e q = rw e q
 
-  pub resolved-slot : (o : ℕ) (r : Outcome) → g ≡ Slot o → r ≡ fixAt t place o → r ≡ resolved g t place
+  pub resolved-slot : (o : RVA) (r : Outcome) → g ≡ Slot o → r ≡ fixAt t place o → r ≡ resolved g t place
   unfolding resolved
   resolved-slot o r e q = rw e q
 
@@ -76,47 +79,57 @@ module _ (g : Target) (t : RelocationType) (place : ℕ) where
   unfolding resolved
   resolved-missing k e = rw e
 
-  pub resolved-refused : g ≡ Refused → TurnedDown ≡ resolved g t place
+  pub resolved-refused : g ≡ target.Refused → Refused ≡ resolved g t place
   unfolding resolved
   resolved-refused e = rw e
 
 pub ruleset resolving = (resolved-home, resolved-named, resolved-slot, resolved-missing, resolved-refused)
 
-module _ (f : List ℕ) (h : Header) (map homes : List ℕ) (undef : ℕ) (slot : List ℕ → Found) (j : ℕ) (t : RelocationType) (place : ℕ) where
-  pub symbol-none : leb (h .symbols) j ≡ true → Skipped NoSymbol ≡ bySymbol f h map homes undef slot j t place
+module _ (f : List ℕ) (h : Header) (own : ℕ → Bool) (home : ℕ → Offset) (undef : ℕ) (slot : List ℕ → Found) (j : ℕ) (t : RelocationType) (place : RVA) where
+  pub symbol-none : leb (h .symbols) j ≡ true → Skipped NoSymbol ≡ bySymbol f h own home undef slot j t place
   unfolding bySymbol pick
   symbol-none e = rw e
 
-  pub symbol-own : (b : Bool) (g : Target) (r : Outcome) → leb (h .symbols) j ≡ false → b ≡ isOwn map j → b ≡ true → g ≡ targetOf f h homes undef slot j → r ≡ resolved g t place → r ≡ bySymbol f h map homes undef slot j t place
+  pub symbol-own : (b : Bool) (g : Target) (r : Outcome) → leb (h .symbols) j ≡ false → b ≡ own j → b ≡ true → g ≡ targetOf f h home undef slot j → r ≡ resolved g t place → r ≡ bySymbol f h own home undef slot j t place
   unfolding bySymbol pick
   symbol-own b g r e q d p w = rw (e, ← q, d, ← p) w
 
-  pub symbol-auxiliary : (b : Bool) → leb (h .symbols) j ≡ false → b ≡ isOwn map j → b ≡ false → TurnedDown ≡ bySymbol f h map homes undef slot j t place
+  pub symbol-auxiliary : (b : Bool) → leb (h .symbols) j ≡ false → b ≡ own j → b ≡ false → Refused ≡ bySymbol f h own home undef slot j t place
   unfolding bySymbol pick
   symbol-auxiliary b e q d = rw (e, ← q, d)
 
 pub ruleset symbol-ways = (symbol-none, symbol-own, symbol-auxiliary)
 
-module _ (a : Arch) (f : List ℕ) (h : Header) (map homes : List ℕ) (undef : ℕ) (slot : List ℕ → Found) (i k cell : ℕ) where
-  pub outcome-passed : cell ≡ getD homes i 0 → cell ≡ 0 → Passed ≡ outcome a f h map homes undef slot i k
-  unfolding outcome pick
-  outcome-passed q e = rw (← q, eq-eqb cell 0 e)
+module _ (a : Arch) (f : List ℕ) (h : Header) (own : ℕ → Bool) (home : ℕ → Offset) (undef : ℕ) (slot : List ℕ → Found) (i k : ℕ) where
+  pub home-at : (start : RVA) (j n at : ℕ) (t : RelocationType) (r : Outcome)
+      → at ≡ relocationAddress f h i k → n ≡ relocationType f h i k → t ≡ typeOf a n → j ≡ relocationSymbol f h i k
+      → r ≡ bySymbol f h own home undef slot j t (rva (start .0 + at)) → r ≡ atHome a f h own home undef slot i k start
+  unfolding atHome
+  home-at start j n at t r p w d s g = rw (← p, ← w, ← d, ← s) g
 
-  pub outcome-symbol : (j n at : ℕ) (t : RelocationType) (r : Outcome)
-      → cell ≡ getD homes i 0 → (cell ≡ 0 → ⊥) → at ≡ relocationAddress f h i k → n ≡ relocationType f h i k → t ≡ typeOf a n → j ≡ relocationSymbol f h i k
-      → r ≡ bySymbol f h map homes undef slot j t (cell - 1 + at) → r ≡ outcome a f h map homes undef slot i k
-  unfolding outcome pick
-  outcome-symbol j n at t r q e p w d s g = rw (← q, ne-eqb cell 0 e, ← p, ← w, ← d, ← s) g
+  module _ (x : Offset) (is : x ≡ home i) where
+    pub outcome-passed : x ≡ None → Passed ≡ outcome a f h own home undef slot i k
+    unfolding outcome ofHome
+    outcome-passed e = rw (← is, e)
 
-pub ruleset outcome-ways = (outcome-passed, outcome-symbol)
+    pub outcome-home : (start : RVA) (r : Outcome) → x ≡ At start → r ≡ atHome a f h own home undef slot i k start → r ≡ outcome a f h own home undef slot i k
+    unfolding outcome ofHome
+    outcome-home start r e q = rw (← is, e) q
+
+-- the start of a home that is read from its word is low
+pub home-low : (x : Offset) (start : RVA) → Low x → x ≡ At start → start .0 < 2 ^ 32
+unfolding Low
+home-low x start l e = rw e at l
+
+pub ruleset outcome-ways = (home-at, outcome-passed, outcome-home, home-low)
 
 -- ---- values
 module _ (base : ℕ) (x : Fix) (s r : ℕ) (b : Bool) where
-  pub value-relative : s ≡ (x .target + x .addend) % 2 ^ 64 → b ≡ isRelative (x .kind) → b ≡ true → x .place < 2 ^ 64 → r < 2 ^ 64 → (r + x .place) % 2 ^ 64 ≡ s → r ≡ valueOf base x
+  pub value-relative : s ≡ (x .target .0 + x .addend) % 2 ^ 64 → b ≡ isRelative (x .kind) → b ≡ true → x .place .0 < 2 ^ 64 → r < 2 ^ 64 → (r + x .place .0) % 2 ^ 64 ≡ s → r ≡ valueOf base x
   unfolding valueOf pick
   value-relative e q d p w g = rw (← q, d) (omega arith)
 
-  pub value-based : s ≡ (x .target + x .addend) % 2 ^ 64 → b ≡ isRelative (x .kind) → b ≡ false → r ≡ (s + base) % 2 ^ 64 → r ≡ valueOf base x
+  pub value-based : s ≡ (x .target .0 + x .addend) % 2 ^ 64 → b ≡ isRelative (x .kind) → b ≡ false → r ≡ (s + base) % 2 ^ 64 → r ≡ valueOf base x
   unfolding valueOf pick
   value-based e q d g = rw (← q, d) (omega arith)
 

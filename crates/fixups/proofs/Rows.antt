@@ -9,10 +9,10 @@ use Rattle.util.specs.Prefix.{sumTo, countTo}
 use Rattle.targets.specs.declared.Skip.{Skip}
 use Rattle.fixups.specs.declared.Fix.{Fix}
 use Rattle.fixups.specs.declared.Outcome.{Outcome}
-use Rattle.fixups.specs.declared.Outcome.the-variants.{Passed, Skipped, TurnedDown, Fixup}
+use Rattle.fixups.specs.declared.Outcome.the-variants.{Passed, Skipped, Refused, Fixup}
 use Rattle.fixups.specs.declared.Tally.{Tally}
-use Rattle.fixups.specs.Tally.{isPassed, isSkipped, isRefused, isFixup, isMapped, isOutside, passes, inSection, howMany, tallyOf}
-use Rattle.fixups.specs.Tallying.{nothing, tallied, rowTo, rowsTo, Within, Counted}
+use Rattle.fixups.specs.Tally.{isPassed, isSkipped, isRefused, isFixup, isMapped, isOutside, passes, countIn, howMany, tallyOf}
+use Rattle.fixups.specs.Tallying.{nothing, tallied, rowTo, rowsTo, AtMost, Counted}
 
 -- ---- one outcome more
 module _ (pages : ℕ) (t : Tally) where
@@ -37,7 +37,7 @@ module _ (pages : ℕ) (t : Tally) where
     unfolding tallied pick
     with-skipped k e = rw e
 
-    pub with-refused : o ≡ TurnedDown
+    pub with-refused : o ≡ Refused
         → record { passed = t .passed; skips = t .skips; refused = t .refused + 1; fixups = t .fixups; outside = t .outside } ≡ tallied pages t o
     unfolding tallied pick
     with-refused e = rw e
@@ -53,7 +53,7 @@ unfolding pick
 up-one true n m k h = omega arith
 up-one false n m k h = omega arith
 
-pub within-again : (pages : ℕ) (s r : Tally) (x : Outcome) (n k : ℕ) → Within s (n + k) → r ≡ tallied pages s x → Within r (n + (k + 1))
+pub within-again : (pages : ℕ) (s r : Tally) (x : Outcome) (n k : ℕ) → AtMost s (n + k) → r ≡ tallied pages s x → AtMost r (n + (k + 1))
 unfolding tallied
 within-again pages s r x n k w e =
     rw e
@@ -65,7 +65,7 @@ within-again pages s r x n k w e =
       outside = up-one (isOutside pages x) (s .outside) n k (w .outside);
     })
 
-pub within-more : (s : Tally) (n m : ℕ) → Within s n → n ≤ m → Within s m
+pub within-more : (s : Tally) (n m : ℕ) → AtMost s n → n ≤ m → AtMost s m
 within-more s n m w h =
     record {
       passed = omega (arith, w .passed);
@@ -75,7 +75,7 @@ within-more s n m w h =
       outside = omega (arith, w .outside);
     }
 
-pub within-room : (s : Tally) (i k m : ℕ) → Within s (2 ^ 32 * i + k) → i < 2 ^ 16 → k < m → m < 2 ^ 32 → Within s (2 ^ 60)
+pub within-room : (s : Tally) (i k m : ℕ) → AtMost s (2 ^ 32 * i + k) → i < 2 ^ 16 → k < m → m < 2 ^ 32 → AtMost s (2 ^ 60)
 within-room s i k m w a b c = within-more s (2 ^ 32 * i + k) (2 ^ 60) w (omega arith)
 
 -- ---- the records of a section
@@ -84,14 +84,14 @@ module _ (pages : ℕ) (o : ℕ → ℕ → Outcome) (i : ℕ) (t : Tally) where
   unfolding rowTo
   row-none = refl
 
-  pub row-within : Within t (2 ^ 32 * i) → Within t (2 ^ 32 * i + 0)
+  pub row-within : AtMost t (2 ^ 32 * i) → AtMost t (2 ^ 32 * i + 0)
   row-within w = within-more t (2 ^ 32 * i) (2 ^ 32 * i + 0) w (omega arith)
 
   pub row-again : (k : ℕ) (s r : Tally) (x : Outcome) → s ≡ rowTo pages o i t k → x ≡ o i k → r ≡ tallied pages s x → r ≡ rowTo pages o i t (k + 1)
   unfolding rowTo
   row-again k s r x e q d = rw (add-one k, ← e, ← q) d
 
-  pub row-end : (k m n : ℕ) (s : Tally) → s ≡ rowTo pages o i t k → Within s (2 ^ 32 * i + k) → k ≤ m → m ≤ k → m ≡ n → m < 2 ^ 32 → Counted (rowTo pages o i t n) i s
+  pub row-end : (k m n : ℕ) (s : Tally) → s ≡ rowTo pages o i t k → AtMost s (2 ^ 32 * i + k) → k ≤ m → m ≤ k → m ≡ n → m < 2 ^ 32 → Counted (rowTo pages o i t n) i s
   row-end k m n s e w a b q c =
       let z : k ≡ n = omega arith in
       record { same = cc; near = within-more s (2 ^ 32 * i + k) (2 ^ 32 * (i + 1)) w (omega arith) }
@@ -114,7 +114,7 @@ module _ (pages : ℕ) (o : ℕ → ℕ → Outcome) (count : ℕ → ℕ) (p : 
       omega arith
 
   rows-count : q nothing ≡ 0 → ((t : Tally) (x : Outcome) → q (tallied pages t x) ≡ q t + pick (p x) 1 0) → (n : ℕ) → q (rowsTo pages o count n) ≡ howMany p o count n
-  unfolding rowsTo sumTo inSection
+  unfolding rowsTo sumTo countIn
   rows-count none step zero = none
   rows-count none step (suc n) =
       let e = rows-count none step n in
@@ -158,10 +158,10 @@ module _ (pages : ℕ) (o : ℕ → ℕ → Outcome) (count : ℕ → ℕ) where
   pub rows-end : (i n m : ℕ) (s : Tally) → s ≡ rowsTo pages o count i → i ≤ n → n ≤ i → n ≡ m → s ≡ tallyOf pages o count m
   rows-end i n m s e a b q = let z : i ≡ m = omega arith in e ∙ ap (rowsTo pages o count) z ∙ rows-are m
 
-pub counted-near : (g r : Tally) (i : ℕ) → Counted g i r → Within r (2 ^ 32 * (i + 1))
+pub counted-near : (g r : Tally) (i : ℕ) → Counted g i r → AtMost r (2 ^ 32 * (i + 1))
 counted-near g r i c = c .near
 
-pub none-within : Within (record { passed = 0; skips = 0; refused = 0; fixups = 0; outside = 0 }) (2 ^ 32 * 0)
+pub none-within : AtMost (record { passed = 0; skips = 0; refused = 0; fixups = 0; outside = 0 }) (2 ^ 32 * 0)
 none-within = record { passed = omega arith; skips = omega arith; refused = omega arith; fixups = omega arith; outside = omega arith }
 
 pub ruleset rows-loop = (rows-none, rows-again, rows-end, counted-near, none-within)

@@ -11,8 +11,8 @@ use Rattle.util.specs.Pick.{le-or-lt}
 use Rattle.targets.specs.declared.Skip.{Skip}
 use Rattle.fixups.specs.declared.Fix.{Fix}
 use Rattle.fixups.specs.declared.Outcome.{Outcome}
-use Rattle.fixups.specs.declared.Outcome.the-variants.{Passed, Skipped, TurnedDown, Fixup}
-use Rattle.fixups.specs.Lists.{recordsTo, sectionsTo, fixesOf, fixAtRecord, fixList, skipAtRecord, skipList}
+use Rattle.fixups.specs.declared.Outcome.the-variants.{Passed, Skipped, Refused, Fixup}
+use Rattle.fixups.specs.Lists.{overRecords, overSections, fixesOf, fixAtRecord, fixList, skipAtRecord, skipList}
 
 -- P of every element of a list
 abbrev pub Each : {A : Type 0} → (A → Type 0) → List A → Type 0
@@ -34,17 +34,17 @@ module _ {A : Type 0} (P : A → Type 0) where
       (le-or-lt (length xs) j)
 
   module _ (out : ℕ → ℕ → List A) where
-    each-record : (i n : ℕ) → ((k : ℕ) → k < n → Each P (out i k)) → Each P (recordsTo out i n)
-    unfolding recordsTo
+    each-record : (i n : ℕ) → ((k : ℕ) → k < n → Each P (out i k)) → Each P (overRecords out i n)
+    unfolding overRecords
     each-record i zero h = each-none
     each-record i (suc n) h =
-        each-append (recordsTo out i n) (out i n) (each-record i n (λ k l. h k (omega arith))) (h n (omega arith))
+        each-append (overRecords out i n) (out i n) (each-record i n (λ k l. h k (omega arith))) (h n (omega arith))
 
-    each-section : (count : ℕ → ℕ) (n : ℕ) → ((i k : ℕ) → i < n → k < count i → Each P (out i k)) → Each P (sectionsTo out count n)
-    unfolding sectionsTo
+    each-section : (count : ℕ → ℕ) (n : ℕ) → ((i k : ℕ) → i < n → k < count i → Each P (out i k)) → Each P (overSections out count n)
+    unfolding overSections
     each-section count zero h = each-none
     each-section count (suc n) h =
-        each-append (sectionsTo out count n) (recordsTo out n (count n))
+        each-append (overSections out count n) (overRecords out n (count n))
         (each-section count n (λ i k l. h i k (omega arith)))
         (each-record n (count n) (λ k. h n k (omega arith)))
 
@@ -56,7 +56,7 @@ module _ (P : Fix → Type 0) where
   each-fix : (y : Outcome) → ((x : Fix) → y ≡ Fixup x → P x) → Each P (fixesOf y)
   each-fix Passed h = each-none P
   each-fix (Skipped s) h = each-none P
-  each-fix TurnedDown h = each-none P
+  each-fix Refused h = each-none P
   each-fix (Fixup x) h = each-one x (h x refl)
 
   pub every-fixup : (o : ℕ → ℕ → Outcome) (count : ℕ → ℕ) (n : ℕ)
@@ -87,20 +87,20 @@ module _ {A : Type 0} (x : A) where
       record { position = length xs + s .position; inside = omega arith; is = λ d. getD-append-add xs ys (s .position) d ∙ s .is d }
 
   module _ (out : ℕ → ℕ → List A) where
-    stands-record : (i n k : ℕ) → k < n → Stands x (out i k) → Stands x (recordsTo out i n)
-    unfolding recordsTo
+    stands-record : (i n k : ℕ) → k < n → Stands x (out i k) → Stands x (overRecords out i n)
+    unfolding overRecords
     stands-record i zero k h s = absurd (not-suc-le-zero h)
     stands-record i (suc n) k h s =
-        ⊎-elim (λ q. stands-right (recordsTo out i n) (out i n) (rw (← q) s)) (λ lt. stands-left (recordsTo out i n) (out i n) (stands-record i n k lt s))
+        ⊎-elim (λ q. stands-right (overRecords out i n) (out i n) (rw (← q) s)) (λ lt. stands-left (overRecords out i n) (out i n) (stands-record i n k lt s))
         (eq-or-lt-of-le (le-of-suc-le-suc h))
 
-    stands-section : (count : ℕ → ℕ) (n i k : ℕ) → i < n → k < count i → Stands x (out i k) → Stands x (sectionsTo out count n)
-    unfolding sectionsTo
+    stands-section : (count : ℕ → ℕ) (n i k : ℕ) → i < n → k < count i → Stands x (out i k) → Stands x (overSections out count n)
+    unfolding overSections
     stands-section count zero i k h l s = absurd (not-suc-le-zero h)
     stands-section count (suc n) i k h l s =
         ⊎-elim
-        (λ q. stands-right (sectionsTo out count n) (recordsTo out n (count n)) (rw (← q) (stands-record i (count i) k l s)))
-        (λ lt. stands-left (sectionsTo out count n) (recordsTo out n (count n)) (stands-section count n i k lt l s))
+        (λ q. stands-right (overSections out count n) (overRecords out n (count n)) (rw (← q) (stands-record i (count i) k l s)))
+        (λ lt. stands-left (overSections out count n) (overRecords out n (count n)) (stands-section count n i k lt l s))
         (eq-or-lt-of-le (le-of-suc-le-suc h))
 
 module _ (o : ℕ → ℕ → Outcome) (count : ℕ → ℕ) (n i k : ℕ) (section : i < n) (index : k < count i) where

@@ -5,29 +5,29 @@ use Prim.Native.Nat.{ℕ, zero, suc, _+_}
 use Rattle.targets.specs.declared.Skip.{Skip}
 use Rattle.fixups.specs.declared.Fix.{Fix}
 use Rattle.fixups.specs.declared.Outcome.{Outcome}
-use Rattle.fixups.specs.declared.Outcome.the-variants.{Passed, Skipped, TurnedDown, Fixup}
+use Rattle.fixups.specs.declared.Outcome.the-variants.{Passed, Skipped, Refused, Fixup}
 
 -- ---- what every record gives, one after another: of section i's first k, and of the first n sections
-unfoldable pub recordsTo : {A : Type 0} → (ℕ → ℕ → List A) → ℕ → ℕ → List A
-recordsTo out i zero = []
-recordsTo out i (suc k) = recordsTo out i k ++ out i k
+unfoldable pub overRecords : {A : Type 0} → (ℕ → ℕ → List A) → ℕ → ℕ → List A
+overRecords out i zero = []
+overRecords out i (suc k) = overRecords out i k ++ out i k
 
-unfoldable pub sectionsTo : {A : Type 0} → (ℕ → ℕ → List A) → (ℕ → ℕ) → ℕ → List A
-sectionsTo out count zero = []
-sectionsTo out count (suc i) = sectionsTo out count i ++ recordsTo out i (count i)
+unfoldable pub overSections : {A : Type 0} → (ℕ → ℕ → List A) → (ℕ → ℕ) → ℕ → List A
+overSections out count zero = []
+overSections out count (suc i) = overSections out count i ++ overRecords out i (count i)
 
 -- ---- fixups
 abbrev pub fixesOf : Outcome → List Fix
 fixesOf Passed = []
 fixesOf (Skipped s) = []
-fixesOf TurnedDown = []
+fixesOf Refused = []
 fixesOf (Fixup x) = x ∷ []
 
 unfoldable pub fixAtRecord : (ℕ → ℕ → Outcome) → ℕ → ℕ → List Fix
 fixAtRecord o i k = fixesOf (o i k)
 
 abbrev pub fixList : (ℕ → ℕ → Outcome) → (ℕ → ℕ) → ℕ → List Fix
-fixList o count n = sectionsTo (fixAtRecord o) count n
+fixList o count n = overSections (fixAtRecord o) count n
 
 -- ---- skips: the section from 1, the record from 0, the reason
 pub record SkipAt : Type 0 where
@@ -38,11 +38,11 @@ pub record SkipAt : Type 0 where
 abbrev pub skipsOf : ℕ → ℕ → Outcome → List SkipAt
 skipsOf i k Passed = []
 skipsOf i k (Skipped s) = record { section = i + 1; index = k; reason = s } ∷ []
-skipsOf i k TurnedDown = []
+skipsOf i k Refused = []
 skipsOf i k (Fixup x) = []
 
 unfoldable pub skipAtRecord : (ℕ → ℕ → Outcome) → ℕ → ℕ → List SkipAt
 skipAtRecord o i k = skipsOf i k (o i k)
 
 abbrev pub skipList : (ℕ → ℕ → Outcome) → (ℕ → ℕ) → ℕ → List SkipAt
-skipList o count n = sectionsTo (skipAtRecord o) count n
+skipList o count n = overSections (skipAtRecord o) count n

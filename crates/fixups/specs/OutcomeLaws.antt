@@ -1,15 +1,18 @@
--- What a fixup tells of its relocation, and that a home's relocations are not passed; for every file and every map, homes and slots.
+-- What a fixup tells of its relocation, and that a home's relocations are not passed; for every file, all homes and all slots.
 use mathlib.Core.Path.{_≡_, refl, sym, ap, _∙_}
-use mathlib.Core.Bool.{true, false}
+use mathlib.Core.Bool.{Bool, true, false}
 use mathlib.Core.List.{List}
 use mathlib.Core.Logic.{_⊎_, inl, inr, ⊎-elim}
-use Prim.Native.Nat.{ℕ, _+_, _-_, _<_}
+use Prim.Native.Nat.{ℕ, _+_, _<_}
 use native.Mathlib.Omega.{arith}
-use lib.Dec.{eqb, leb}
-use lib.ListN.{getD}
+use lib.Dec.{leb}
 use borrow.Author.Tests.{leb-false}
 use Rattle.util.specs.Pick.{pick, yes-no, pick-either}
 use Rattle.arch.specs.declared.Arch.{Arch}
+use Rattle.arch.specs.declared.RVA.{RVA}
+use Rattle.arch.specs.declared.Offset.{Offset}
+use Rattle.arch.specs.declared.Offset.the-variants.{At, None}
+use Rattle.arch.specs.Address.{rva}
 use Rattle.arch.specs.declared.Arch.the-variants.{X32, X64}
 use Rattle.object.specs.declared.Header.{Header}
 use Rattle.kinds.specs.declared.RelocationKind.{RelocationKind}
@@ -18,14 +21,14 @@ use Rattle.kinds.specs.declared.RelocationType.{RelocationType}
 use Rattle.object.specs.Relocation.{relocationAddress, relocationSymbol, relocationType}
 use Rattle.kinds.specs.Types.{type32, type64, typeOf}
 use Rattle.externs.specs.declared.Found.{Found}
-use Rattle.externs.specs.Puts.{isOwn}
 use Rattle.targets.specs.declared.Skip.the-variants.{NoSymbol, NoType}
 use Rattle.targets.specs.declared.Target.{Target}
-use Rattle.targets.specs.declared.Target.the-variants.{Home, Named, Slot, Missing, Refused}
+use Rattle.targets.specs.declared.Target.the-variants as target
+use Rattle.targets.specs.declared.Target.the-variants.{Home, Named, Slot, Missing}
 use Rattle.fixups.specs.declared.Fix.{Fix}
-use Rattle.fixups.specs.declared.Outcome.the-variants.{Passed, Skipped, TurnedDown, Fixup}
+use Rattle.fixups.specs.declared.Outcome.the-variants.{Passed, Skipped, Refused, Fixup}
 use Rattle.targets.specs.Target.{targetOf}
-use Rattle.fixups.specs.Outcome.{byKind, fixOf, fixAt, resolved, bySymbol, outcome}
+use Rattle.fixups.specs.Outcome.{byKind, fixOf, fixAt, resolved, bySymbol, ofHome, atHome, outcome}
 use Rattle.fixups.specs.Tally.{isPassed}
 
 -- ---- the types that are carried have 32 or 64 bits
@@ -66,7 +69,7 @@ has-bits X32 t = has-bits-32 t
 has-bits X64 t = has-bits-64 t
 
 -- ---- a fixup is its relocation's type at its place, with the target that the symbol comes to
-pub record Reaches (g : Target) (o : ℕ) : Type 0 where
+pub record Reaches (g : Target) (o : RVA) : Type 0 where
   pub way : (g ≡ Home o) ⊎ ((g ≡ Named o) ⊎ (g ≡ Slot o))
 
 by-fix : (k : RelocationKind) (x y : Fix) → byKind k x ≡ Fixup y → x ≡ y
@@ -81,16 +84,16 @@ by-fix Unknown x y e = cc
 by-bits : (t : RelocationType) (x y : Fix) → HasBits t → byKind (t .kind) x ≡ Fixup y → (t .bits ≡ 32) ⊎ (t .bits ≡ 64)
 unfolding byKind
 by-bits t x y b e =
-    ⊎-elim (λ n. absurd (let z : TurnedDown ≡ Fixup y = rw n at e in let w : _≡_ {A = ℕ} 0 1 = cc in omega arith))
+    ⊎-elim (λ n. absurd (let z : Refused ≡ Fixup y = rw n at e in let w : _≡_ {A = ℕ} 0 1 = cc in omega arith))
     (⊎-elim (λ n. absurd (let z : Skipped NoType ≡ Fixup y = rw n at e in let w : _≡_ {A = ℕ} 0 1 = cc in omega arith)) (λ r. r))
     (b .carried)
 
-pub record Resolved (g : Target) (t : RelocationType) (place : ℕ) (x : Fix) : Type 0 where
+pub record Resolved (g : Target) (t : RelocationType) (place : RVA) (x : Fix) : Type 0 where
   pub reaches : Reaches g (x .target)
   pub is : x ≡ fixOf t place (x .target)
   pub bits : (x .bits ≡ 32) ⊎ (x .bits ≡ 64)
 
-fix-of : (g : Target) (t : RelocationType) (place o : ℕ) (x : Fix) → HasBits t → Reaches g o → fixAt t place o ≡ Fixup x → Resolved g t place x
+fix-of : (g : Target) (t : RelocationType) (place o : RVA) (x : Fix) → HasBits t → Reaches g o → fixAt t place o ≡ Fixup x → Resolved g t place x
 fix-of g t place o x b r e =
     let q : fixOf t place o ≡ x = by-fix (t .kind) (fixOf t place o) x e in
     let z : o ≡ x .target = ap (λ (y : Fix). y .target) q in
@@ -101,28 +104,28 @@ fix-of g t place o x b r e =
       bits = ⊎-elim (λ n. inl (sym w ∙ n)) (λ n. inr (sym w ∙ n)) (by-bits t (fixOf t place o) x b e);
     }
 
-resolved-fix : (g : Target) (t : RelocationType) (place : ℕ) (x : Fix) → HasBits t → resolved g t place ≡ Fixup x → Resolved g t place x
+resolved-fix : (g : Target) (t : RelocationType) (place : RVA) (x : Fix) → HasBits t → resolved g t place ≡ Fixup x → Resolved g t place x
 unfolding resolved
 resolved-fix (Home o) t place x b e = fix-of (Home o) t place o x b (record { way = inl refl }) e
 resolved-fix (Named o) t place x b e = fix-of (Named o) t place o x b (record { way = inr (inl refl) }) e
 resolved-fix (Slot o) t place x b e = fix-of (Slot o) t place o x b (record { way = inr (inr refl) }) e
 resolved-fix (Missing k) t place x b e = absurd (let w : _≡_ {A = ℕ} 0 1 = cc in omega arith)
-resolved-fix Refused t place x b e = absurd (let w : _≡_ {A = ℕ} 0 1 = cc in omega arith)
+resolved-fix target.Refused t place x b e = absurd (let w : _≡_ {A = ℕ} 0 1 = cc in omega arith)
 
-module _ (f : List ℕ) (h : Header) (map homes : List ℕ) (undef : ℕ) (slot : List ℕ → Found) (j : ℕ) (t : RelocationType) (place : ℕ) (x : Fix) where
+module _ (f : List ℕ) (h : Header) (own : ℕ → Bool) (home : ℕ → Offset) (undef : ℕ) (slot : List ℕ → Found) (j : ℕ) (t : RelocationType) (place : RVA) (x : Fix) where
   record ByOwn : Type 0 where
     known : j < h .symbols
-    own : isOwn map j ≡ true
-    resolved : Resolved (targetOf f h homes undef slot j) t place x
+    mine : own j ≡ true
+    resolved : Resolved (targetOf f h home undef slot j) t place x
 
-  own-fix : HasBits t → j < h .symbols → pick (isOwn map j) (resolved (targetOf f h homes undef slot j) t place) TurnedDown ≡ Fixup x → ByOwn
+  own-fix : HasBits t → j < h .symbols → pick (own j) (resolved (targetOf f h home undef slot j) t place) Refused ≡ Fixup x → ByOwn
   unfolding pick
   own-fix b l e =
-      ⊎-elim (λ o. record { known = l; own = o; resolved = resolved-fix (targetOf f h homes undef slot j) t place x b (rw o at e) })
-      (λ o. absurd (let z : TurnedDown ≡ Fixup x = rw o at e in let w : _≡_ {A = ℕ} 0 1 = cc in omega arith))
-      (yes-no (isOwn map j))
+      ⊎-elim (λ o. record { known = l; mine = o; resolved = resolved-fix (targetOf f h home undef slot j) t place x b (rw o at e) })
+      (λ o. absurd (let z : Refused ≡ Fixup x = rw o at e in let w : _≡_ {A = ℕ} 0 1 = cc in omega arith))
+      (yes-no (own j))
 
-  symbol-fix : HasBits t → bySymbol f h map homes undef slot j t place ≡ Fixup x → ByOwn
+  symbol-fix : HasBits t → bySymbol f h own home undef slot j t place ≡ Fixup x → ByOwn
   unfolding bySymbol pick
   symbol-fix b e =
       ⊎-elim (λ n. absurd (let z : Skipped NoSymbol ≡ Fixup x = rw n at e in let w : _≡_ {A = ℕ} 0 1 = cc in omega arith))
@@ -130,23 +133,26 @@ module _ (f : List ℕ) (h : Header) (map homes : List ℕ) (undef : ℕ) (slot 
       (yes-no (leb (h .symbols) j))
 
 -- of a fixup: its section has a home, its symbol is a symbol's own record, and it is the type's fixup at home start + address field
-pub record FixFrom (a : Arch) (f : List ℕ) (h : Header) (map homes : List ℕ) (undef : ℕ) (slot : List ℕ → Found) (i k : ℕ) (x : Fix) : Type 0 where
-  pub homed : eqb (getD homes i 0) 0 ≡ false
+pub record FixFrom (a : Arch) (f : List ℕ) (h : Header) (own : ℕ → Bool) (home : ℕ → Offset) (undef : ℕ) (slot : List ℕ → Found) (i k : ℕ) (x : Fix) : Type 0 where
+  pub start : RVA
+  pub homed : home i ≡ At start
   pub known : relocationSymbol f h i k < h .symbols
-  pub own : isOwn map (relocationSymbol f h i k) ≡ true
-  pub resolved : Resolved (targetOf f h homes undef slot (relocationSymbol f h i k)) (typeOf a (relocationType f h i k)) (getD homes i 0 - 1 + relocationAddress f h i k) x
+  pub mine : own (relocationSymbol f h i k) ≡ true
+  pub resolved : Resolved (targetOf f h home undef slot (relocationSymbol f h i k)) (typeOf a (relocationType f h i k)) (rva (start .0 + relocationAddress f h i k)) x
 
-pub fix-from : (a : Arch) (f : List ℕ) (h : Header) (map homes : List ℕ) (undef : ℕ) (slot : List ℕ → Found) (i k : ℕ) (x : Fix)
-    → outcome a f h map homes undef slot i k ≡ Fixup x → FixFrom a f h map homes undef slot i k x
-unfolding outcome pick
-fix-from a f h map homes undef slot i k x e =
-    ⊎-elim (λ n. absurd (let z : Passed ≡ Fixup x = rw n at e in let w : _≡_ {A = ℕ} 0 1 = cc in omega arith))
-    (λ n.
-    let t = typeOf a (relocationType f h i k) in
-    let r =
-    symbol-fix f h map homes undef slot (relocationSymbol f h i k) t (getD homes i 0 - 1 + relocationAddress f h i k) x (has-bits a (relocationType f h i k)) (rw n at e) in
-    record { homed = n; known = r .known; own = r .own; resolved = r .resolved })
-    (yes-no (eqb (getD homes i 0) 0))
+module _ (a : Arch) (f : List ℕ) (h : Header) (own : ℕ → Bool) (home : ℕ → Offset) (undef : ℕ) (slot : List ℕ → Found) (i k : ℕ) (x : Fix) where
+  from-home : (o : Offset) → home i ≡ o → ofHome o (atHome a f h own home undef slot i k) ≡ Fixup x → FixFrom a f h own home undef slot i k x
+  unfolding ofHome atHome
+  from-home (At start) q e =
+      let t = typeOf a (relocationType f h i k) in
+      let r =
+      symbol-fix f h own home undef slot (relocationSymbol f h i k) t (rva (start .0 + relocationAddress f h i k)) x (has-bits a (relocationType f h i k)) e in
+      record { start = start; homed = q; known = r .known; mine = r .mine; resolved = r .resolved }
+  from-home None q e = absurd (let w : _≡_ {A = ℕ} 0 1 = cc in omega arith)
+
+  pub fix-from : outcome a f h own home undef slot i k ≡ Fixup x → FixFrom a f h own home undef slot i k x
+  unfolding outcome
+  fix-from e = from-home (home i) refl e
 
 -- ---- passed are the relocations of sections without a home alone
 kind-not-passed : (k : RelocationKind) (x : Fix) → isPassed (byKind k x) ≡ false
@@ -158,22 +164,22 @@ kind-not-passed Relative x = refl
 kind-not-passed NotCarried x = refl
 kind-not-passed Unknown x = refl
 
-resolved-not-passed : (g : Target) (t : RelocationType) (place : ℕ) → isPassed (resolved g t place) ≡ false
+resolved-not-passed : (g : Target) (t : RelocationType) (place : RVA) → isPassed (resolved g t place) ≡ false
 unfolding resolved
 resolved-not-passed (Home o) t place = kind-not-passed (t .kind) (fixOf t place o)
 resolved-not-passed (Named o) t place = kind-not-passed (t .kind) (fixOf t place o)
 resolved-not-passed (Slot o) t place = kind-not-passed (t .kind) (fixOf t place o)
 resolved-not-passed (Missing k) t place = refl
-resolved-not-passed Refused t place = refl
+resolved-not-passed target.Refused t place = refl
 
-module _ (a : Arch) (f : List ℕ) (h : Header) (map homes : List ℕ) (undef : ℕ) (slot : List ℕ → Found) where
-  symbol-not-passed : (j : ℕ) (t : RelocationType) (place : ℕ) → isPassed (bySymbol f h map homes undef slot j t place) ≡ false
+module _ (a : Arch) (f : List ℕ) (h : Header) (own : ℕ → Bool) (home : ℕ → Offset) (undef : ℕ) (slot : List ℕ → Found) where
+  symbol-not-passed : (j : ℕ) (t : RelocationType) (place : RVA) → isPassed (bySymbol f h own home undef slot j t place) ≡ false
   unfolding bySymbol
   symbol-not-passed j t place =
       pick-either (λ y. isPassed y ≡ false) (leb (h .symbols) j) (Skipped NoSymbol) _ (λ e. refl)
-      (pick-either (λ y. isPassed y ≡ false) (isOwn map j) _ TurnedDown (λ e. resolved-not-passed (targetOf f h homes undef slot j) t place) refl)
+      (pick-either (λ y. isPassed y ≡ false) (own j) _ Refused (λ e. resolved-not-passed (targetOf f h home undef slot j) t place) refl)
 
-  pub homed-not-passed : (i k : ℕ) → eqb (getD homes i 0) 0 ≡ false → isPassed (outcome a f h map homes undef slot i k) ≡ false
-  unfolding outcome pick
-  homed-not-passed i k e =
-      rw e (symbol-not-passed (relocationSymbol f h i k) (typeOf a (relocationType f h i k)) (getD homes i 0 - 1 + relocationAddress f h i k))
+  pub homed-not-passed : (i k : ℕ) (start : RVA) → home i ≡ At start → isPassed (outcome a f h own home undef slot i k) ≡ false
+  unfolding outcome ofHome atHome
+  homed-not-passed i k start e =
+      rw e (symbol-not-passed (relocationSymbol f h i k) (typeOf a (relocationType f h i k)) (rva (start .0 + relocationAddress f h i k)))

@@ -10,9 +10,9 @@ use lib.ListN.{length, length-append}
 use Rattle.util.specs.Pick.{pick, yes-no}
 use Rattle.util.specs.Prefix.{sumTo, countTo}
 use Rattle.fixups.specs.declared.Outcome.{Outcome}
-use Rattle.fixups.specs.declared.Outcome.the-variants.{Passed, Skipped, TurnedDown, Fixup}
-use Rattle.fixups.specs.Tally.{isPassed, isSkipped, isRefused, isFixup, passes, inSection, howMany}
-use Rattle.fixups.specs.Lists.{recordsTo, sectionsTo, fixesOf, fixAtRecord, fixList, skipsOf, skipAtRecord, skipList}
+use Rattle.fixups.specs.declared.Outcome.the-variants.{Passed, Skipped, Refused, Fixup}
+use Rattle.fixups.specs.Tally.{isPassed, isSkipped, isRefused, isFixup, passes, countIn, howMany}
+use Rattle.fixups.specs.Lists.{overRecords, overSections, fixesOf, fixAtRecord, fixList, skipsOf, skipAtRecord, skipList}
 
 -- one as a number
 abbrev pub one : Bool → ℕ
@@ -23,7 +23,7 @@ pub just-one : (x : Outcome) → one (isPassed x) + one (isSkipped x) + one (isR
 unfolding pick
 just-one Passed = refl
 just-one (Skipped s) = refl
-just-one TurnedDown = refl
+just-one Refused = refl
 just-one (Fixup x) = refl
 
 module _ (o : ℕ → ℕ → Outcome) (count : ℕ → ℕ) where
@@ -37,7 +37,7 @@ module _ (o : ℕ → ℕ → Outcome) (count : ℕ → ℕ) where
 
   -- so the four counts add up to the relocations
   pub all-counted : (n : ℕ) → howMany isPassed o count n + howMany isSkipped o count n + howMany isRefused o count n + howMany isFixup o count n ≡ sumTo count n
-  unfolding sumTo inSection
+  unfolding sumTo countIn
   all-counted zero = refl
   all-counted (suc n) =
       let e = all-counted n in
@@ -46,13 +46,13 @@ module _ (o : ℕ → ℕ → Outcome) (count : ℕ → ℕ) where
 
 -- ---- the counts are the lengths of the lists
 module _ {A : Type 0} (out : ℕ → ℕ → List A) (o : ℕ → ℕ → Outcome) (count : ℕ → ℕ) (p : Outcome → Bool) where
-  records-length : ((i k : ℕ) → length (out i k) ≡ one (p (o i k))) → (i k : ℕ) → length (recordsTo out i k) ≡ countTo (passes p o i) k
-  unfolding recordsTo countTo passes
+  records-length : ((i k : ℕ) → length (out i k) ≡ one (p (o i k))) → (i k : ℕ) → length (overRecords out i k) ≡ countTo (passes p o i) k
+  unfolding overRecords countTo passes
   records-length h i zero = refl
   records-length h i (suc k) = simp (length-append, records-length h i k, h i k)
 
-  list-length : ((i k : ℕ) → length (out i k) ≡ one (p (o i k))) → (n : ℕ) → length (sectionsTo out count n) ≡ howMany p o count n
-  unfolding sectionsTo sumTo inSection
+  list-length : ((i k : ℕ) → length (out i k) ≡ one (p (o i k))) → (n : ℕ) → length (overSections out count n) ≡ howMany p o count n
+  unfolding overSections sumTo countIn
   list-length h zero = refl
   list-length h (suc n) = simp (length-append, list-length h n, records-length h n (count n))
 
@@ -60,14 +60,14 @@ fix-length : (x : Outcome) → length (fixesOf x) ≡ one (isFixup x)
 unfolding pick
 fix-length Passed = refl
 fix-length (Skipped s) = refl
-fix-length TurnedDown = refl
+fix-length Refused = refl
 fix-length (Fixup x) = refl
 
 skip-length : (i k : ℕ) (x : Outcome) → length (skipsOf i k x) ≡ one (isSkipped x)
 unfolding pick
 skip-length i k Passed = refl
 skip-length i k (Skipped s) = refl
-skip-length i k TurnedDown = refl
+skip-length i k Refused = refl
 skip-length i k (Fixup x) = refl
 
 module _ (o : ℕ → ℕ → Outcome) (count : ℕ → ℕ) (n : ℕ) where
@@ -90,7 +90,7 @@ module _ (p : Outcome → Bool) (o : ℕ → ℕ → Outcome) (count : ℕ → �
       (eq-or-lt-of-le (le-of-suc-le-suc h))
 
   pub none-anywhere : (n i k : ℕ) → howMany p o count n ≡ 0 → i < n → k < count i → p (o i k) ≡ false
-  unfolding sumTo inSection
+  unfolding sumTo countIn
   none-anywhere zero i k e h l = absurd (not-suc-le-zero h)
   none-anywhere (suc n) i k e h l =
       ⊎-elim (λ q. let d : countTo (passes p o i) (count i) ≡ 0 = rw q (omega arith) in none-here i (count i) k d l)

@@ -23,12 +23,13 @@ unfoldable pub rowTo : ℕ → (ℕ → ℕ → Outcome) → ℕ → Tally → �
 rowTo pages o i t zero = t
 rowTo pages o i t (suc k) = tallied pages (rowTo pages o i t k) (o i k)
 
+-- of the first n sections
 unfoldable pub rowsTo : ℕ → (ℕ → ℕ → Outcome) → (ℕ → ℕ) → ℕ → Tally
 rowsTo pages o count zero = nothing
 rowsTo pages o count (suc i) = rowTo pages o i (rowsTo pages o count i) (count i)
 
 -- no count is above n
-pub record Within (t : Tally) (n : ℕ) : Type 0 where
+pub record AtMost (t : Tally) (n : ℕ) : Type 0 where
   pub passed : t .passed ≤ n
   pub skips : t .skips ≤ n
   pub refused : t .refused ≤ n
@@ -38,4 +39,4 @@ pub record Within (t : Tally) (n : ℕ) : Type 0 where
 -- section i's records counted, with the bound of one section more
 pub record Counted (is : Tally) (i : ℕ) (r : Tally) : Type 0 where
   pub same : r ≡ is
-  pub near : Within r (2 ^ 32 * (i + 1))
+  pub near : AtMost r (2 ^ 32 * (i + 1))

@@ -7,6 +7,7 @@ use Rattle.kinds.specs.declared.RelocationKind.{RelocationKind}
 use Rattle.kinds.specs.declared.RelocationKind.the-variants.{Absolute, ImageOffset, SectionOffset, Relative, NotCarried, Unknown}
 use Rattle.fixups.specs.declared.Fix.{Fix}
 
+-- the place is taken from a relative value
 abbrev pub isRelative : RelocationKind → Bool
 isRelative Absolute = false
 isRelative ImageOffset = false
@@ -17,7 +18,8 @@ isRelative Unknown = false
 
 -- what is added to target and addend: the place taken away, or the base
 abbrev pub shift : ℕ → Fix → ℕ
-shift base x = pick (isRelative (x .kind)) (2 ^ 64 - x .place) base
+shift base x = pick (isRelative (x .kind)) (2 ^ 64 - x .place .0) base
 
+-- the value of a fixup at a base
 unfoldable pub valueOf : ℕ → Fix → ℕ
-valueOf base x = (x .target + x .addend + shift base x) % 2 ^ 64
+valueOf base x = (x .target .0 + x .addend + shift base x) % 2 ^ 64

@@ -15,7 +15,7 @@ use Rattle.kinds.specs.declared.RelocationKind.{RelocationKind}
 use Rattle.kinds.specs.declared.RelocationType.{RelocationType}
 use Rattle.kinds.specs.Types.{type32, type64, typeOf}
 use Rattle.le.specs.Le.{get, le, get-low}
-use Rattle.checks.specs.Limits.{MAX-BASE}
+use Rattle.limits.specs.Limits.{MAX-BASE}
 use Rattle.fixups.specs.declared.Fix.{Fix}
 use Rattle.fixups.specs.Value.{isRelative, shift, valueOf}
 use Rattle.fixups.specs.Signed.{signed, signed-low, signed-high, difference-same, difference-is, low-keeps}
@@ -37,8 +37,8 @@ Addend k bits addend = TakesAway k bits addend ⊎ AddsNone k addend
 -- what makes a fixup's value exact
 pub record Exact (x : Fix) : Type 0 where
   pub bits : (x .bits ≡ 32) ⊎ (x .bits ≡ 64)
-  pub place : x .place < 2 ^ 24
-  pub target : x .target < 2 ^ 24
+  pub place : x .place .0 < 2 ^ 24
+  pub target : x .target .0 < 2 ^ 24
   pub addend : Addend (x .kind) (x .bits) (x .addend)
 
 -- ---- the types' addends are such
@@ -95,7 +95,7 @@ module _ (x : Fix) (ok : Exact x) where
 
   module _ (b : ℕ) (low : b ≤ MAX-BASE) where
     -- any other value is base and target
-    pub other-is : isRelative (x .kind) ≡ false → valueOf b x ≡ b + x .target
+    pub other-is : isRelative (x .kind) ≡ false → valueOf b x ≡ b + x .target .0
     unfolding valueOf pick
     other-is e =
         let n = no-addend e in
@@ -106,12 +106,12 @@ module _ (x : Fix) (ok : Exact x) where
   pub other-rises : (b₁ b₂ : ℕ) → b₁ ≤ MAX-BASE → b₂ ≤ MAX-BASE → isRelative (x .kind) ≡ false → valueOf b₂ x + b₁ ≡ valueOf b₁ x + b₂
   other-rises b₁ b₂ l₁ l₂ e = rw (other-is b₁ l₁ e, other-is b₂ l₂ e) (omega arith)
 
-  relative-by : (b : ℕ) → isRelative (x .kind) ≡ true → valueOf b x ≡ (x .target + x .addend + (2 ^ 64 - x .place)) % 2 ^ 64
+  relative-by : (b : ℕ) → isRelative (x .kind) ≡ true → valueOf b x ≡ (x .target .0 + x .addend + (2 ^ 64 - x .place .0)) % 2 ^ 64
   unfolding valueOf pick
   relative-by b e = rw e
 
   -- a relative value, as a signed number, is the target less the place and less what the type takes away
-  pub relative-is : (b : ℕ) → isRelative (x .kind) ≡ true → signed 8 (valueOf b x) ≡ subℕ (x .target) (x .place + (2 ^ 64 - x .addend))
+  pub relative-is : (b : ℕ) → isRelative (x .kind) ≡ true → signed 8 (valueOf b x) ≡ subℕ (x .target .0) (x .place .0 + (2 ^ 64 - x .addend))
   relative-is b e =
       let a = relative-addend e in
       let l = a .least in
@@ -120,12 +120,12 @@ module _ (x : Fix) (ok : Exact x) where
       let t = ok .target in
       let v = relative-by b e in
       ⊎-elim (λ h.
-      let z : valueOf b x + (x .place + (2 ^ 64 - x .addend)) ≡ x .target = omega arith in
-      signed-low 8 (valueOf b x) (omega arith) ∙ difference-is (valueOf b x) (x .target) (x .place + (2 ^ 64 - x .addend)) z)
+      let z : valueOf b x + (x .place .0 + (2 ^ 64 - x .addend)) ≡ x .target .0 = omega arith in
+      signed-low 8 (valueOf b x) (omega arith) ∙ difference-is (valueOf b x) (x .target .0) (x .place .0 + (2 ^ 64 - x .addend)) z)
       (λ h.
-      let q : valueOf b x + (x .place + (2 ^ 64 - x .addend)) ≡ x .target + 2 ^ 64 = omega arith in
-      signed-high 8 (valueOf b x) (omega arith) ∙ difference-same (valueOf b x) (256 ^ 8) (x .target) (x .place + (2 ^ 64 - x .addend)) q)
-      (le-or-lt (x .place + (2 ^ 64 - x .addend)) (x .target))
+      let q : valueOf b x + (x .place .0 + (2 ^ 64 - x .addend)) ≡ x .target .0 + 2 ^ 64 = omega arith in
+      signed-high 8 (valueOf b x) (omega arith) ∙ difference-same (valueOf b x) (256 ^ 8) (x .target .0) (x .place .0 + (2 ^ 64 - x .addend)) q)
+      (le-or-lt (x .place .0 + (2 ^ 64 - x .addend)) (x .target .0))
 
   -- ---- the bytes of a fixup keep its value: no bit is lost
   module _ (b : ℕ) (low : b ≤ MAX-BASE) where
@@ -139,13 +139,13 @@ module _ (x : Fix) (ok : Exact x) where
         let m = a .most in
         let p = ok .place in
         let v = relative-by b e in
-        ⊎-elim (λ h. inl (omega arith)) (λ h. inr ((omega arith), (omega arith))) (le-or-lt (x .place + (2 ^ 64 - x .addend)) (x .target)))
+        ⊎-elim (λ h. inl (omega arith)) (λ h. inr ((omega arith), (omega arith))) (le-or-lt (x .place .0 + (2 ^ 64 - x .addend)) (x .target .0)))
         (λ e. let v = other-is b low e in inl (omega arith))
         (yes-no (isRelative (x .kind)))
 
     below : valueOf b x < 2 ^ 64
     unfolding valueOf
-    below = mod-lt (x .target + x .addend + shift b x) (omega arith)
+    below = mod-lt (x .target .0 + x .addend + shift b x) (omega arith)
 
     by-width : (n : ℕ) → x .bits / 8 ≡ n → signed n (valueOf b x % 256 ^ n) ≡ signed 8 (valueOf b x)
         → signed (x .bits / 8) (get (x .bits / 8) (le (x .bits / 8) (valueOf b x)) 0) ≡ signed 8 (valueOf b x)

@@ -1,7 +1,8 @@
-// What becomes of each relocation, from get_coff_fixups. Places and targets are offsets from the base; the base enters in `value` alone.
+// What becomes of each relocation, from get_coff_fixups. Places and targets are offsets; the base enters in `value` alone.
 mod outcomes;
 mod tallies;
 
+use arch::RVA;
 use kinds::RelocationKind;
 pub use outcomes::outcome_of;
 pub use outcomes::value;
@@ -10,17 +11,17 @@ use targets::Skip;
 
 // A fixup before the base is known: the addend is in two's complement.
 pub struct Fix {
-    pub place: u64,
+    pub place: RVA,
     pub bits: u64,
     pub kind: RelocationKind,
-    pub target: u64,
+    pub target: RVA,
     pub addend: u64,
 }
 
 pub enum Outcome {
     Passed,
     Skipped(Skip),
-    TurnedDown,
+    Refused,
     Fixup(Fix),
 }
 

@@ -2,14 +2,20 @@
 use crate::Fix;
 use crate::Outcome;
 use arch::Arch;
+use arch::Offset;
+use arch::RVA;
+use arch::VA;
 use kinds::RelocationKind;
 use kinds::RelocationType;
 use object::Header;
 use targets::Skip;
 use targets::Target;
 ghost use mathlib.Core.Path.{_≡_};
+ghost use Prim.Native.Nat.{_<_, _^_};
 ghost use Rattle.externs.specs.Bisect.{bisect};
-ghost use Rattle.fixups.specs.Outcome.{byKind, fixAt, resolved, bySymbol, outcome};
+ghost use Rattle.object.specs.Symbol.{isOwn};
+ghost use Rattle.homes.specs.Home.{homeIn};
+ghost use Rattle.fixups.specs.Outcome.{byKind, fixAt, resolved, bySymbol, atHome, outcome};
 ghost use Rattle.fixups.specs.Value.{isRelative, valueOf};
 
 fn by_kind(kind: RelocationKind, x: Fix) -> Outcome
@@ -20,12 +26,12 @@ fn by_kind(kind: RelocationKind, x: Fix) -> Outcome
         RelocationKind::ImageOffset => Outcome::Fixup(x),
         RelocationKind::SectionOffset => Outcome::Fixup(x),
         RelocationKind::Relative => Outcome::Fixup(x),
-        RelocationKind::NotCarried => Outcome::TurnedDown,
+        RelocationKind::NotCarried => Outcome::Refused,
         RelocationKind::Unknown => Outcome::Skipped(Skip::NoType),
     }
 }
 
-fn fix_at(t: RelocationType, place: u64, target: u64) -> Outcome
+fn fix_at(t: RelocationType, place: RVA, target: RVA) -> Outcome
     ensures { λ r. ⌜ r ≡ fixAt t place target ⌝ }
 {
     let kind = t.kind;
@@ -39,7 +45,7 @@ fn fix_at(t: RelocationType, place: u64, target: u64) -> Outcome
     by_kind(kind, x)
 }
 
-fn resolved(target: Target, t: RelocationType, place: u64) -> Outcome
+fn resolved(target: Target, t: RelocationType, place: RVA) -> Outcome
     ensures { λ r. ⌜ r ≡ resolved target t place ⌝ }
 {
     match target {
@@ -47,7 +53,7 @@ fn resolved(target: Target, t: RelocationType, place: u64) -> Outcome
         Target::Named(o) => fix_at(t, place, o),
         Target::Slot(o) => fix_at(t, place, o),
         Target::Missing(k) => Outcome::Skipped(k),
-        Target::Refused => Outcome::TurnedDown,
+        Target::Refused => Outcome::Refused,
     }
 }
 
@@ -55,58 +61,67 @@ fn resolved(target: Target, t: RelocationType, place: u64) -> Outcome
 fn by_symbol(
     f: &[u8],
     h: Header,
-    map: &[u8],
+    own: &[u8],
     homes: &[u32],
     undef: u32,
-    set: &[u32],
+    slots: &[u32],
     j: u32,
     t: RelocationType,
-    place: u64,
+    place: RVA,
 ) -> Outcome
-    ensures { λ r. ⌜ r ≡ bySymbol (now (f .entry)) h (now (map .entry)) (now (homes .entry)) undef (bisect (now (f .entry)) h (now (set .entry))) j t place ⌝ }
+    ensures { λ r. ⌜ r ≡ bySymbol (now (f .entry)) h (isOwn (now (own .entry))) (homeIn (now (homes .entry))) undef (bisect (now (f .entry)) h (now (slots .entry))) j t place ⌝ }
 {
     let none = h.symbols <= j;
     if none {
         return Outcome::Skipped(Skip::NoSymbol);
     }
-    if externs::is_own(map, j) {
-        resolved(targets::target_of(f, h, homes, undef, set, j), t, place)
+    if object::is_own(own, j) {
+        resolved(targets::target_of(f, h, homes, undef, slots, j), t, place)
     } else {
-        Outcome::TurnedDown
+        Outcome::Refused
     }
 }
 
-// What becomes of relocation k of section i: `map` marks the symbols' own records, `homes` has the sections' homes, `set` the extern names.
+// The same, in a section whose home starts at `start`.
+fn at_home(
+    arch: Arch,
+    f: &[u8],
+    h: Header,
+    own: &[u8],
+    homes: &[u32],
+    undef: u32,
+    slots: &[u32],
+    i: u32,
+    k: u32,
+    start: RVA,
+) -> Outcome
+    requires { ⌜ start .0 < 2 ^ 32 ⌝ }
+    ensures { λ r. ⌜ r ≡ atHome arch (now (f .entry)) h (isOwn (now (own .entry))) (homeIn (now (homes .entry))) undef (bisect (now (f .entry)) h (now (slots .entry))) i k start ⌝ }
+{
+    let place = RVA(start.0 + object::relocation_address(f, h, i, k) as u64);
+    let t = kinds::type_of(arch, object::relocation_type(f, h, i, k));
+    let j = object::relocation_symbol(f, h, i, k);
+    by_symbol(f, h, own, homes, undef, slots, j, t, place)
+}
+
+// What becomes of relocation k of section i: `own` marks the symbols' own records, `homes` has the sections' homes, `slots` the extern names.
 pub fn outcome_of(
     arch: Arch,
     f: &[u8],
     h: Header,
-    map: &[u8],
+    own: &[u8],
     homes: &[u32],
     undef: u32,
-    set: &[u32],
+    slots: &[u32],
     i: u32,
     k: u32,
 ) -> Outcome
-    ensures { λ r. ⌜ r ≡ outcome arch (now (f .entry)) h (now (map .entry)) (now (homes .entry)) undef (bisect (now (f .entry)) h (now (set .entry))) i k ⌝ }
+    ensures { λ r. ⌜ r ≡ outcome arch (now (f .entry)) h (isOwn (now (own .entry))) (homeIn (now (homes .entry))) undef (bisect (now (f .entry)) h (now (slots .entry))) i k ⌝ }
 {
-    let cell = le::word_at(homes, i as usize);
-    if cell == 0 {
-        return Outcome::Passed;
+    match homes::home_in(homes, i) {
+        Offset::At(start) => at_home(arch, f, h, own, homes, undef, slots, i, k, start),
+        Offset::None => Outcome::Passed,
     }
-    let place = (cell - 1) as u64 + object::relocation_address(f, h, i, k) as u64;
-    let t = kinds::type_of(arch, object::relocation_type(f, h, i, k));
-    by_symbol(
-        f,
-        h,
-        map,
-        homes,
-        undef,
-        set,
-        object::relocation_symbol(f, h, i, k),
-        t,
-        place,
-    )
 }
 
 fn is_relative(kind: RelocationKind) -> bool
@@ -123,14 +138,14 @@ fn is_relative(kind: RelocationKind) -> bool
 }
 
 // What a fixup's place takes, in two's complement.
-pub fn value(base: u64, x: Fix) -> u64
-    ensures { λ r. ⌜ r ≡ valueOf base x ⌝ }
+pub fn value(base: VA, x: Fix) -> u64
+    ensures { λ r. ⌜ r ≡ valueOf (base .0) x ⌝ }
 {
     let kind = x.kind;
-    let sum = std::num::wrapping_add_u64(x.target, x.addend);
+    let sum = std::num::wrapping_add_u64(x.target.0, x.addend);
     if is_relative(kind) {
-        std::num::wrapping_sub_u64(sum, x.place)
+        std::num::wrapping_sub_u64(sum, x.place.0)
     } else {
-        std::num::wrapping_add_u64(sum, base)
+        std::num::wrapping_add_u64(sum, base.0)
     }
 }

@@ -9,21 +9,23 @@ use object::Header;
 ghost use mathlib.Core.Path.{_≡_};
 ghost use Prim.Native.Nat.{_+_, _*_, _^_, _<_};
 ghost use Rattle.object.specs.Section.{relocationCount};
+ghost use Rattle.object.specs.Symbol.{isOwn};
+ghost use Rattle.homes.specs.Home.{homeIn};
 ghost use Rattle.externs.specs.Bisect.{bisect};
 ghost use Rattle.fixups.specs.declared.Outcome.the-variants.{Fixup};
 ghost use Rattle.fixups.specs.Outcome.{outcome};
 ghost use Rattle.fixups.specs.Tally.{isMapped, tallyOf};
-ghost use Rattle.fixups.specs.Tallying.{tallied, rowTo, Within, Counted};
+ghost use Rattle.fixups.specs.Tallying.{tallied, rowTo, AtMost, Counted};
 
 // A fixup's bytes lie in the first `pages` pages.
 fn is_mapped(pages: u32, x: Fix) -> bool
     ensures { λ r. ⌜ r ≡ isMapped pages x ⌝ }
 {
-    util::within(x.place, x.bits / 8, PAGE_SIZE * (pages as u64))
+    util::within(x.place.0, x.bits / 8, PAGE_SIZE * (pages as u64))
 }
 
 fn with_fixup(pages: u32, t: Tally, x: Fix) -> Tally
-    requires { ⌜ Within t (2 ^ 60) ⌝ }
+    requires { ⌜ AtMost t (2 ^ 60) ⌝ }
     ensures { λ r. ⌜ r ≡ tallied pages t (Fixup x) ⌝ }
 {
     let fixups = t.fixups + 1;
@@ -47,7 +49,7 @@ fn with_fixup(pages: u32, t: Tally, x: Fix) -> Tally
 }
 
 fn with_outcome(pages: u32, t: Tally, o: Outcome) -> Tally
-    requires { ⌜ Within t (2 ^ 60) ⌝ }
+    requires { ⌜ AtMost t (2 ^ 60) ⌝ }
     ensures { λ r. ⌜ r ≡ tallied pages t o ⌝ }
 {
     match o {
@@ -69,7 +71,7 @@ fn with_outcome(pages: u32, t: Tally, o: Outcome) -> Tally
                 outside: t.outside,
             }
         }
-        Outcome::TurnedDown => {
+        Outcome::Refused => {
             Tally {
                 passed: t.passed,
                 skips: t.skips,
@@ -87,16 +89,16 @@ fn with_section(
     arch: Arch,
     f: &[u8],
     h: Header,
-    map: &[u8],
+    own: &[u8],
     homes: &[u32],
     undef: u32,
-    set: &[u32],
+    slots: &[u32],
     pages: u32,
     t: Tally,
     i: u32,
 ) -> Tally
-    requires { ⌜ (i < 2 ^ 16) × Within t (2 ^ 32 * i) ⌝ }
-    ensures { λ r. ⌜ Counted (rowTo pages (outcome arch (now (f .entry)) h (now (map .entry)) (now (homes .entry)) undef (bisect (now (f .entry)) h (now (set .entry)))) i t (relocationCount (now (f .entry)) h i)) i r ⌝ }
+    requires { ⌜ (i < 2 ^ 16) × AtMost t (2 ^ 32 * i) ⌝ }
+    ensures { λ r. ⌜ Counted (rowTo pages (outcome arch (now (f .entry)) h (isOwn (now (own .entry))) (homeIn (now (homes .entry))) undef (bisect (now (f .entry)) h (now (slots .entry)))) i t (relocationCount (now (f .entry)) h i)) i r ⌝ }
 {
     let m = object::relocation_count(f, h, i);
     let mut sum = t;
@@ -105,7 +107,7 @@ fn with_section(
         sum = with_outcome(
             pages,
             sum,
-            outcomes::outcome_of(arch, f, h, map, homes, undef, set, i, k),
+            outcomes::outcome_of(arch, f, h, own, homes, undef, slots, i, k),
         );
         k += 1;
     }
@@ -117,13 +119,13 @@ pub fn tally_of(
     arch: Arch,
     f: &[u8],
     h: Header,
-    map: &[u8],
+    own: &[u8],
     homes: &[u32],
     undef: u32,
-    set: &[u32],
+    slots: &[u32],
     pages: u32,
 ) -> Tally
-    ensures { λ r. ⌜ r ≡ tallyOf pages (outcome arch (now (f .entry)) h (now (map .entry)) (now (homes .entry)) undef (bisect (now (f .entry)) h (now (set .entry)))) (relocationCount (now (f .entry)) h) (h .sections) ⌝ }
+    ensures { λ r. ⌜ r ≡ tallyOf pages (outcome arch (now (f .entry)) h (isOwn (now (own .entry))) (homeIn (now (homes .entry))) undef (bisect (now (f .entry)) h (now (slots .entry)))) (relocationCount (now (f .entry)) h) (h .sections) ⌝ }
 {
     let n = h.sections as u32;
     let mut sum = Tally {
@@ -135,7 +137,7 @@ pub fn tally_of(
     };
     let mut i: u32 = 0;
     while i < n {
-        sum = with_section(arch, f, h, map, homes, undef, set, pages, sum, i);
+        sum = with_section(arch, f, h, own, homes, undef, slots, pages, sum, i);
         i += 1;
     }
     sum

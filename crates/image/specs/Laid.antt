@@ -8,7 +8,8 @@ use Rattle.arch.specs.Page.{PAGE-SIZE}
 use Rattle.le.specs.Le.{le, splice, part}
 use Rattle.object.specs.declared.Header.{Header}
 use Rattle.object.specs.Section.{loaded, fileStart, fileEnd}
-use Rattle.layout.specs.Layout.{SLOT-SIZE, undefStart, mappedPages, startsTo}
+use Rattle.limits.specs.Limits.{SLOT-SIZE}
+use Rattle.layout.specs.Layout.{undefStart, mappedPages, startsTo}
 
 -- the mapped pages are zero
 abbrev pub zeroed : ℕ → List ℕ → List ℕ

@@ -8,6 +8,7 @@ use Prim.Native.Nat.{ℕ, zero, suc, _+_, _-_, _*_, _%_, _^_, _≤_, _<_}
 use native.Mathlib.Nat.{le-trans, le-of-suc-le-suc, eq-or-lt-of-le, mod-eq-of-lt}
 use native.Mathlib.Omega.{arith}
 use lib.ListN.{length, replicate, getD, length-replicate, getD-replicate, List·getD-eq-default}
+use Rattle.limits.specs.Limits.{MAX-PAGES, MAX-EXTERNS}
 use Rattle.util.specs.Pick.{pick, yes-no, le-or-lt}
 use Rattle.util.specs.Prefix.{list-at}
 use Rattle.arch.specs.Page.{PAGE-SIZE}
@@ -109,7 +110,7 @@ module _ (f : List ℕ) (h : Header) where
   length-bytes i = part-most f (fileStart f h i) (fileEnd f h i - fileStart f h i)
 
   -- where refusal 8 does not apply, the 32 bits keep all of each
-  pub starts-exact : mappedPages f h ≤ 4096 → (i : ℕ) → i < h .sections → getD (startsTo f h (h .sections)) i 0 ≡ startAt f h i
+  pub starts-exact : mappedPages f h ≤ MAX-PAGES → (i : ℕ) → i < h .sections → getD (startsTo f h (h .sections)) i 0 ≡ startAt f h i
   starts-exact room i q =
       let s = starts-fit f h room i (omega arith) in
       list-at (λ k. startAt f h k % 2 ^ 32) 0 (h .sections) i q ∙ mod-eq-of-lt (omega arith)
@@ -117,7 +118,7 @@ module _ (f : List ℕ) (h : Header) where
 -- ---- the laid image of a file that is accepted
 -- refusals 8 and 9 do not apply, and the image has room for the mapped pages
 module _ (f : List ℕ) (h : Header) (base n : ℕ) (image : List ℕ)
-    (room : mappedPages f h ≤ 4096) (few : n ≤ 1024) (long : PAGE-SIZE * mappedPages f h ≤ length image) where
+    (room : mappedPages f h ≤ MAX-PAGES) (few : n ≤ MAX-EXTERNS) (long : PAGE-SIZE * mappedPages f h ≤ length image) where
   -- by name: the zeroed image, and the sections in it
   abbrev clean : List ℕ
   clean = zeroed (mappedPages f h) image

@@ -1,4 +1,2 @@
 pub mod Laid
-pub mod MarkWords
 pub mod LaidLaws
-pub mod MarkLaws

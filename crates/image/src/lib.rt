@@ -1,11 +1,12 @@
 // The laid image and its marks, in lent storage. Offsets from the base are places in the image.
+use arch::Offset;
 use arch::PAGE_SIZE;
+use arch::RVA;
+use arch::VA;
 use object::Header;
 ghost use mathlib.Core.Path.{_≡_};
-ghost use Prim.Native.Nat.{_-_, _*_, _^_, _<_};
-ghost use Rattle.le.specs.Le.{le, splice};
+ghost use Rattle.marks.specs.Marks.{marksPut};
 ghost use Rattle.image.specs.Laid.{sectionBytes, sectionStep, sectionsLaid, slotStep, slotsLaid, laid};
-ghost use Rattle.image.specs.MarkWords.{markWord, markBytes, markCount};
 
 // The bytes of section i's file range.
 fn section_bytes(f: &[u8], h: Header, i: u32) -> &[u8]
@@ -37,16 +38,21 @@ fn lay_sections(f: &[u8], h: Header, starts: &[u32], image: &mut [u8])
     }
 }
 
-// Slot e holds its own address.
-fn lay_slot(base: u32, undef: u32, e: u32, image: &mut [u8])
-    ensures { λ _. ⌜ now (image .exit) ≡ slotStep base undef (now (image .entry)) e ⌝ }
+// Slot e holds its own address; one past 64 bits lies in no image.
+fn lay_slot(base: VA, undef: RVA, e: u32, image: &mut [u8])
+    ensures { λ _. ⌜ now (image .exit) ≡ slotStep (base .0) (undef .0) (now (image .entry)) e ⌝ }
 {
-    let at = undef as u64 + 4 * (e as u64);
-    le::put(image, at as usize, 4, base as u64 + at);
+    match undef.plus(RVA(limits::SLOT_SIZE * (e as u64))) {
+        Offset::At(at) => {
+            let address = std::num::wrapping_add_u64(base.0, at.0);
+            le::put(image, at.0 as usize, limits::SLOT_SIZE as usize, address);
+        }
+        Offset::None => {}
+    }
 }
 
-fn lay_slots(base: u32, undef: u32, n: u32, image: &mut [u8])
-    ensures { λ _. ⌜ now (image .exit) ≡ slotsLaid base undef (now (image .entry)) n ⌝ }
+fn lay_slots(base: VA, undef: RVA, n: u32, image: &mut [u8])
+    ensures { λ _. ⌜ now (image .exit) ≡ slotsLaid (base .0) (undef .0) (now (image .entry)) n ⌝ }
 {
     let mut e: u32 = 0;
     while e < n {
@@ -61,60 +67,16 @@ fn lay(
     h: Header,
     starts: &[u32],
     pages: u32,
-    base: u32,
-    undef: u32,
+    base: VA,
+    undef: RVA,
     n: u32,
     image: &mut [u8],
 )
-    ensures { λ _. ⌜ now (image .exit) ≡ laid (now (f .entry)) h (now (starts .entry)) pages base undef n (now (image .entry)) ⌝ }
+    ensures { λ _. ⌜ now (image .exit) ≡ laid (now (f .entry)) h (now (starts .entry)) pages (base .0) (undef .0) n (now (image .entry)) ⌝ }
 {
     le::zero(image, 0, (PAGE_SIZE * (pages as u64)) as usize);
     lay_sections(f, h, starts, image);
     lay_slots(base, undef, n, image);
-}
-
-// The lowest n bits.
-fn ones(n: u64) -> u64
-    requires { ⌜ n < 64 ⌝ }
-    ensures { λ r. ⌜ r ≡ 2 ^ n - 1 ⌝ }
-{
-    let above = 1 << n;
-    if above == 0 { 0 } else { above - 1 }
-}
-
-// Word w of the marks: ones for the pages that are left for it.
-fn mark_word(pages: u32, w: u32) -> u64
-    ensures { λ r. ⌜ r ≡ markWord pages w ⌝ }
-{
-    let before = 64 * (w as u64);
-    let all = pages as u64;
-    if all <= before {
-        return 0;
-    }
-    let left = all - before;
-    if 64 <= left {
-        0xFFFFFFFFFFFFFFFF
-    } else {
-        ones(left)
-    }
-}
-
-fn put_mark(pages: u32, w: u32, marks: &mut [u8])
-    ensures { λ _. ⌜ now (marks .exit) ≡ splice (now (marks .entry)) (8 * w) (le 8 (markWord pages w)) ⌝ }
-{
-    le::put_u64(marks, 8 * (w as usize), mark_word(pages, w));
-}
-
-// The marks of the mapped pages.
-fn put_marks(pages: u32, marks: &mut [u8])
-    ensures { λ _. ⌜ now (marks .exit) ≡ splice (now (marks .entry)) 0 (markBytes pages (markCount pages)) ⌝ }
-{
-    let n = ((pages as u64 + 63) / 64) as u32;
-    let mut w: u32 = 0;
-    while w < n {
-        put_mark(pages, w, marks);
-        w += 1;
-    }
 }
 
 // The image and its marks.
@@ -123,15 +85,15 @@ pub fn lay_marked(
     h: Header,
     starts: &[u32],
     pages: u32,
-    base: u32,
-    undef: u32,
+    base: VA,
+    undef: RVA,
     n: u32,
     image: &mut [u8],
     marks: &mut [u8],
 )
-    ensures { λ _. ⌜ now (image .exit) ≡ laid (now (f .entry)) h (now (starts .entry)) pages base undef n (now (image .entry)) ⌝ }
-    ensures { λ _. ⌜ now (marks .exit) ≡ splice (now (marks .entry)) 0 (markBytes pages (markCount pages)) ⌝ }
+    ensures { λ _. ⌜ now (image .exit) ≡ laid (now (f .entry)) h (now (starts .entry)) pages (base .0) (undef .0) n (now (image .entry)) ⌝ }
+    ensures { λ _. ⌜ now (marks .exit) ≡ marksPut pages (now (marks .entry)) ⌝ }
 {
     lay(f, h, starts, pages, base, undef, n, image);
-    put_marks(pages, marks);
+    marks::put_marks(pages, marks);
 }

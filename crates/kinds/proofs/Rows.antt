@@ -16,43 +16,79 @@ use Rattle.kinds.specs.declared.RelocationType.{RelocationType}
 use Rattle.kinds.specs.Types.{row, unknown, type32, type64, typeOf, relocationKindNumber, kindOfNumber, kind-back}
 
 -- row i of a table
-abbrev pub rowOf : List ℕ → ℕ → RelocationType
-rowOf table i = row (kindOfNumber (getD table (3 * i) 0)) (getD table (3 * i + 1) 0) (getD table (3 * i + 2) 0)
+abbrev pub rowOf : List (List ℕ) → ℕ → RelocationType
+rowOf table i = row (kindOfNumber (getD (getD table i []) 0 0)) (getD (getD table i []) 1 0) (getD (getD table i []) 2 0)
 
 -- it says what the definition says
-unfoldable pub right : List ℕ → (ℕ → RelocationType) → ℕ → Bool
+unfoldable pub right : List (List ℕ) → (ℕ → RelocationType) → ℕ → Bool
 right table type i =
-    eqb (getD table (3 * i) 0) (relocationKindNumber (type i .kind))
-    && (eqb (getD table (3 * i + 1) 0) (type i .bits) && eqb (getD table (3 * i + 2) 0) (type i .addend))
+    eqb (getD (getD table i []) 0 0) (relocationKindNumber (type i .kind))
+    && (eqb (getD (getD table i []) 1 0) (type i .bits) && eqb (getD (getD table i []) 2 0) (type i .addend))
 
-row-right : (table : List ℕ) (type : ℕ → RelocationType) (i : ℕ) → right table type i ≡ true → rowOf table i ≡ type i
+row-right : (table : List (List ℕ)) (type : ℕ → RelocationType) (i : ℕ) → right table type i ≡ true → rowOf table i ≡ type i
 unfolding right
 row-right table type i e =
-    let k = eqb (getD table (3 * i) 0) (relocationKindNumber (type i .kind)) in
-    let b = eqb (getD table (3 * i + 1) 0) (type i .bits) in
-    let a = eqb (getD table (3 * i + 2) 0) (type i .addend) in
+    let k = eqb (getD (getD table i []) 0 0) (relocationKindNumber (type i .kind)) in
+    let b = eqb (getD (getD table i []) 1 0) (type i .bits) in
+    let a = eqb (getD (getD table i []) 2 0) (type i .addend) in
     let r : b && a ≡ true = and-right k (b && a) e in
-    let p : getD table (3 * i) 0 ≡ relocationKindNumber (type i .kind) = eqb-true _ _ (and-left k (b && a) e) in
-    let q : getD table (3 * i + 1) 0 ≡ type i .bits = eqb-true _ _ (and-left b a r) in
-    let s : getD table (3 * i + 2) 0 ≡ type i .addend = eqb-true _ _ (and-right b a r) in
+    let p : getD (getD table i []) 0 0 ≡ relocationKindNumber (type i .kind) = eqb-true _ _ (and-left k (b && a) e) in
+    let q : getD (getD table i []) 1 0 ≡ type i .bits = eqb-true _ _ (and-left b a r) in
+    let s : getD (getD table i []) 2 0 ≡ type i .addend = eqb-true _ _ (and-right b a r) in
     rw (p, q, s, kind-back (type i .kind))
 
-pub rows-right : (table : List ℕ) (type : ℕ → RelocationType) (n i : ℕ) → allTo (right table type) n ≡ true → i < n → rowOf table i ≡ type i
+pub rows-right : (table : List (List ℕ)) (type : ℕ → RelocationType) (n i : ℕ) → allTo (right table type) n ≡ true → i < n → rowOf table i ≡ type i
 rows-right table type n i e h = row-right table type i (all-at (right table type) n i e h)
 
-abbrev pub table32 : List ℕ
-table32 = 5 ∷ 0 ∷ 0 ∷ 4 ∷ 0 ∷ 0 ∷ 4 ∷ 0 ∷ 0 ∷ 5 ∷ 0 ∷ 0 ∷ 5 ∷ 0 ∷ 0 ∷ 5 ∷ 0 ∷ 0 ∷ 0 ∷ 32 ∷ 0 ∷ 1 ∷ 32 ∷ 0 ∷ 5 ∷ 0 ∷ 0 ∷ 5 ∷ 0 ∷ 0 ∷ 4 ∷ 0 ∷ 0 ∷ 2 ∷ 32 ∷ 0 ∷ 5 ∷ 0 ∷ 0 ∷ 4 ∷ 0 ∷ 0 ∷ 5 ∷ 0 ∷ 0 ∷ 5 ∷ 0 ∷ 0 ∷ 5 ∷ 0 ∷ 0 ∷ 5 ∷ 0 ∷ 0 ∷ 5 ∷ 0 ∷ 0 ∷ 5 ∷ 0 ∷ 0 ∷ 3 ∷ 32 ∷ 18446744073709551612 ∷ []
+abbrev pub table32 : List (List ℕ)
+table32 =
+    (5 ∷ 0 ∷ 0 ∷ [])
+    ∷ (4 ∷ 0 ∷ 0 ∷ [])
+    ∷ (4 ∷ 0 ∷ 0 ∷ [])
+    ∷ (5 ∷ 0 ∷ 0 ∷ [])
+    ∷ (5 ∷ 0 ∷ 0 ∷ [])
+    ∷ (5 ∷ 0 ∷ 0 ∷ [])
+    ∷ (0 ∷ 32 ∷ 0 ∷ [])
+    ∷ (1 ∷ 32 ∷ 0 ∷ [])
+    ∷ (5 ∷ 0 ∷ 0 ∷ [])
+    ∷ (5 ∷ 0 ∷ 0 ∷ [])
+    ∷ (4 ∷ 0 ∷ 0 ∷ [])
+    ∷ (2 ∷ 32 ∷ 0 ∷ [])
+    ∷ (5 ∷ 0 ∷ 0 ∷ [])
+    ∷ (4 ∷ 0 ∷ 0 ∷ [])
+    ∷ (5 ∷ 0 ∷ 0 ∷ [])
+    ∷ (5 ∷ 0 ∷ 0 ∷ [])
+    ∷ (5 ∷ 0 ∷ 0 ∷ [])
+    ∷ (5 ∷ 0 ∷ 0 ∷ [])
+    ∷ (5 ∷ 0 ∷ 0 ∷ [])
+    ∷ (5 ∷ 0 ∷ 0 ∷ [])
+    ∷ (3 ∷ 32 ∷ 18446744073709551612 ∷ [])
+    ∷ []
 
-abbrev pub table64 : List ℕ
-table64 = 5 ∷ 0 ∷ 0 ∷ 0 ∷ 64 ∷ 0 ∷ 0 ∷ 32 ∷ 0 ∷ 1 ∷ 32 ∷ 0 ∷ 3 ∷ 32 ∷ 18446744073709551612 ∷ 3 ∷ 32 ∷ 18446744073709551611 ∷ 3 ∷ 32 ∷ 18446744073709551610 ∷ 3 ∷ 32 ∷ 18446744073709551609 ∷ 3 ∷ 32 ∷ 18446744073709551608 ∷ 3 ∷ 32 ∷ 18446744073709551607 ∷ 4 ∷ 0 ∷ 0 ∷ 2 ∷ 32 ∷ 0 ∷ 4 ∷ 0 ∷ 0 ∷ []
+abbrev pub table64 : List (List ℕ)
+table64 =
+    (5 ∷ 0 ∷ 0 ∷ [])
+    ∷ (0 ∷ 64 ∷ 0 ∷ [])
+    ∷ (0 ∷ 32 ∷ 0 ∷ [])
+    ∷ (1 ∷ 32 ∷ 0 ∷ [])
+    ∷ (3 ∷ 32 ∷ 18446744073709551612 ∷ [])
+    ∷ (3 ∷ 32 ∷ 18446744073709551611 ∷ [])
+    ∷ (3 ∷ 32 ∷ 18446744073709551610 ∷ [])
+    ∷ (3 ∷ 32 ∷ 18446744073709551609 ∷ [])
+    ∷ (3 ∷ 32 ∷ 18446744073709551608 ∷ [])
+    ∷ (3 ∷ 32 ∷ 18446744073709551607 ∷ [])
+    ∷ (4 ∷ 0 ∷ 0 ∷ [])
+    ∷ (2 ∷ 32 ∷ 0 ∷ [])
+    ∷ (4 ∷ 0 ∷ 0 ∷ [])
+    ∷ []
 
-pub row32 : (t : ℕ) (k : RelocationKind) → t < 21 → k ≡ kindOfNumber (getD table32 (3 * t) 0)
-    → row k (getD table32 (3 * t + 1) 0) (getD table32 (3 * t + 2) 0) ≡ type32 t
+pub row32 : (t : ℕ) (k : RelocationKind) → t < 21 → k ≡ kindOfNumber (getD (getD table32 t []) 0 0)
+    → row k (getD (getD table32 t []) 1 0) (getD (getD table32 t []) 2 0) ≡ type32 t
 unfolding allTo right type32 pick
 row32 t k h e = rw e (rows-right table32 type32 21 t refl h)
 
-pub row64 : (t : ℕ) (k : RelocationKind) → t < 13 → k ≡ kindOfNumber (getD table64 (3 * t) 0)
-    → row k (getD table64 (3 * t + 1) 0) (getD table64 (3 * t + 2) 0) ≡ type64 t
+pub row64 : (t : ℕ) (k : RelocationKind) → t < 13 → k ≡ kindOfNumber (getD (getD table64 t []) 0 0)
+    → row k (getD (getD table64 t []) 1 0) (getD (getD table64 t []) 2 0) ≡ type64 t
 unfolding allTo right type64 pick
 row64 t k h e = rw e (rows-right table64 type64 13 t refl h)
 

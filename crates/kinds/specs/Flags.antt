@@ -17,9 +17,11 @@ MEM-DISCARDABLE = 0x2000000
 abbrev pub CNT-UNINITIALIZED : ℕ
 CNT-UNINITIALIZED = 0x80
 
+-- the count of relocations stands in the first of them
 abbrev pub LNK-NRELOC-OVFL : ℕ
 LNK-NRELOC-OVFL = 0x1000000
 
+-- permissions
 abbrev pub MEM-EXECUTE : ℕ
 MEM-EXECUTE = 0x20000000
 

@@ -10,23 +10,24 @@ use Rattle.kinds.specs.declared.Place.{Place}
 use Rattle.kinds.specs.declared.Place.the-variants.{In, Undefined, Common, Absolute, Nowhere, Other}
 
 -- ---- storage classes
-abbrev pub EXTERNAL : ℕ
-EXTERNAL = 2
+abbrev pub CLASS-EXTERNAL : ℕ
+CLASS-EXTERNAL = 2
 
-abbrev pub STATIC : ℕ
-STATIC = 3
+abbrev pub CLASS-STATIC : ℕ
+CLASS-STATIC = 3
 
-abbrev pub LABEL : ℕ
-LABEL = 6
+abbrev pub CLASS-LABEL : ℕ
+CLASS-LABEL = 6
 
-abbrev pub FILE : ℕ
-FILE = 103
+abbrev pub CLASS-FILE : ℕ
+CLASS-FILE = 103
 
-abbrev pub SECTION : ℕ
-SECTION = 104
+-- a section, and a weak external name
+abbrev pub CLASS-SECTION : ℕ
+CLASS-SECTION = 104
 
-abbrev pub WEAK-EXTERNAL : ℕ
-WEAK-EXTERNAL = 105
+abbrev pub CLASS-WEAK-EXTERNAL : ℕ
+CLASS-WEAK-EXTERNAL = 105
 
 -- ---- kind
 -- a function's type: bits 4 and 5 hold 2
@@ -43,30 +44,30 @@ staticKind type value auxiliary = pick (eqb value 0 && not (eqb auxiliary 0)) Se
 
 unfoldable pub kindBy : ℕ → ℕ → ℕ → ℕ → SymbolKind
 kindBy class type value auxiliary =
-    pick (eqb class EXTERNAL || eqb class WEAK-EXTERNAL) (codeOrData type)
-    (pick (eqb class STATIC) (staticKind type value auxiliary)
-    (pick (eqb class SECTION) Section
-    (pick (eqb class FILE) File
-    (pick (eqb class LABEL) Label
+    pick (eqb class CLASS-EXTERNAL || eqb class CLASS-WEAK-EXTERNAL) (codeOrData type)
+    (pick (eqb class CLASS-STATIC) (staticKind type value auxiliary)
+    (pick (eqb class CLASS-SECTION) Section
+    (pick (eqb class CLASS-FILE) File
+    (pick (eqb class CLASS-LABEL) Label
     Unknown))))
 
 -- ---- place, by the signed section number
 -- number 0: undefined if class 2 with value 0, else common
 unfoldable pub zeroPlace : ℕ → ℕ → Place
-zeroPlace class value = pick (eqb class EXTERNAL && eqb value 0) Undefined Common
+zeroPlace class value = pick (eqb class CLASS-EXTERNAL && eqb value 0) Undefined Common
 
 -- positive: that section; 0: undefined or common; -1: absolute; -2: none, for class 103; any other: unknown
 unfoldable pub placeBy : ℤ → ℕ → ℕ → Place
 placeBy (pos zero) class value = zeroPlace class value
 placeBy (pos (suc n)) class value = In (suc n)
 placeBy (negsuc zero) class value = Absolute
-placeBy (negsuc (suc zero)) class value = pick (eqb class FILE) Nowhere Other
+placeBy (negsuc (suc zero)) class value = pick (eqb class CLASS-FILE) Nowhere Other
 placeBy (negsuc (suc (suc n))) class value = Other
 
 -- ---- listing
 -- the value that a listing adds: of class 2, 3, 6 or 105, else 0
 unfoldable pub listedBy : ℕ → ℕ → ℕ
-listedBy class value = pick (eqb class EXTERNAL || (eqb class STATIC || (eqb class LABEL || eqb class WEAK-EXTERNAL))) value 0
+listedBy class value = pick (eqb class CLASS-EXTERNAL || (eqb class CLASS-STATIC || (eqb class CLASS-LABEL || eqb class CLASS-WEAK-EXTERNAL))) value 0
 
 -- ---- numbers
 -- the number that the tables have for a kind

@@ -23,6 +23,7 @@ notCarried = row NotCarried 0 0
 abbrev pub unknown : RelocationType
 unknown = row Unknown 0 0
 
+-- of i386
 unfoldable pub type32 : ℕ → RelocationType
 type32 t =
     pick (eqb t 6) (row Absolute 32 0)
@@ -32,6 +33,7 @@ type32 t =
     (pick (eqb t 1 || (eqb t 2 || (eqb t 0xA || eqb t 0xD))) notCarried
     unknown))))
 
+-- of x64
 unfoldable pub type64 : ℕ → RelocationType
 type64 t =
     pick (eqb t 2) (row Absolute 32 0)
@@ -42,6 +44,7 @@ type64 t =
     (pick (eqb t 0xA || eqb t 0xC) notCarried
     unknown)))))
 
+-- of a machine
 unfoldable pub typeOf : Arch → ℕ → RelocationType
 typeOf X32 t = type32 t
 typeOf X64 t = type64 t

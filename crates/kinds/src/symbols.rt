@@ -7,17 +7,17 @@ ghost use mir.Val.{toZ};
 ghost use Rattle.kinds.specs.Symbol.{codeOrData, staticKind, kindBy, kindNumber, zeroPlace, placeBy, listedBy};
 
 // Storage classes.
-const EXTERNAL: u8 = 2;
+const CLASS_EXTERNAL: u8 = 2;
 
-const STATIC: u8 = 3;
+const CLASS_STATIC: u8 = 3;
 
-const LABEL: u8 = 6;
+const CLASS_LABEL: u8 = 6;
 
-const FILE: u8 = 103;
+const CLASS_FILE: u8 = 103;
 
-const SECTION: u8 = 104;
+const CLASS_SECTION: u8 = 104;
 
-const WEAK_EXTERNAL: u8 = 105;
+const CLASS_WEAK_EXTERNAL: u8 = 105;
 
 fn code_or_data(typ: u16) -> SymbolKind
     ensures { λ r. ⌜ r ≡ codeOrData typ ⌝ }
@@ -50,27 +50,27 @@ fn static_kind(typ: u16, value: u32, auxiliary: u8) -> SymbolKind
 pub fn kind_by(class: u8, typ: u16, value: u32, auxiliary: u8) -> SymbolKind
     ensures { λ r. ⌜ r ≡ kindBy class typ value auxiliary ⌝ }
 {
-    let external = class == EXTERNAL;
+    let external = class == CLASS_EXTERNAL;
     if external {
         return code_or_data(typ);
     }
-    let weak = class == WEAK_EXTERNAL;
+    let weak = class == CLASS_WEAK_EXTERNAL;
     if weak {
         return code_or_data(typ);
     }
-    let stat = class == STATIC;
+    let stat = class == CLASS_STATIC;
     if stat {
         return static_kind(typ, value, auxiliary);
     }
-    let section = class == SECTION;
+    let section = class == CLASS_SECTION;
     if section {
         return SymbolKind::Section;
     }
-    let file = class == FILE;
+    let file = class == CLASS_FILE;
     if file {
         return SymbolKind::File;
     }
-    let label = class == LABEL;
+    let label = class == CLASS_LABEL;
     if label {
         return SymbolKind::Label;
     }
@@ -94,7 +94,7 @@ pub fn kind_number(k: SymbolKind) -> u64
 fn zero_place(class: u8, value: u32) -> Place
     ensures { λ r. ⌜ r ≡ zeroPlace class value ⌝ }
 {
-    let external = class == EXTERNAL;
+    let external = class == CLASS_EXTERNAL;
     if external {
         let zero = value == 0;
         if zero {
@@ -121,7 +121,7 @@ pub fn place_by(number: u16, class: u8, value: u32) -> Place
         return Place::Absolute;
     }
     if number == 0xFFFE {
-        let file = class == FILE;
+        let file = class == CLASS_FILE;
         if file {
             return Place::Nowhere;
         } else {
@@ -135,18 +135,18 @@ pub fn place_by(number: u16, class: u8, value: u32) -> Place
 pub fn listed_by(class: u8, value: u32) -> u32
     ensures { λ r. ⌜ r ≡ listedBy class value ⌝ }
 {
-    let external = class == EXTERNAL;
+    let external = class == CLASS_EXTERNAL;
     if external {
         return value;
     }
-    let stat = class == STATIC;
+    let stat = class == CLASS_STATIC;
     if stat {
         return value;
     }
-    let label = class == LABEL;
+    let label = class == CLASS_LABEL;
     if label {
         return value;
     }
-    let weak = class == WEAK_EXTERNAL;
+    let weak = class == CLASS_WEAK_EXTERNAL;
     if weak { value } else { 0 }
 }

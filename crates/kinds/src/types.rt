@@ -5,113 +5,49 @@ use arch::Arch;
 ghost use mathlib.Core.Path.{_≡_};
 ghost use Rattle.kinds.specs.Types.{type32, type64, typeOf, kindOfNumber};
 
-// The types of each machine, three words a row: the kind's number, the bits and the addend. Types past the last row are unknown.
-const X32_TYPES: [u64; 63] = [
-    5,
-    0,
-    0,
-    4,
-    0,
-    0,
-    4,
-    0,
-    0,
-    5,
-    0,
-    0,
-    5,
-    0,
-    0,
-    5,
-    0,
-    0,
-    0,
-    32,
-    0,
-    1,
-    32,
-    0,
-    5,
-    0,
-    0,
-    5,
-    0,
-    0,
-    4,
-    0,
-    0,
-    2,
-    32,
-    0,
-    5,
-    0,
-    0,
-    4,
-    0,
-    0,
-    5,
-    0,
-    0,
-    5,
-    0,
-    0,
-    5,
-    0,
-    0,
-    5,
-    0,
-    0,
-    5,
-    0,
-    0,
-    5,
-    0,
-    0,
-    3,
-    32,
-    0xFFFFFFFFFFFFFFFC,
+// The types of each machine, a row each: the kind's number, the bits and the addend. Types past the last row are unknown.
+const X32_ROWS: usize = 21;
+
+const X32_TYPES: [[u64; 3]; X32_ROWS] = [
+    [5, 0, 0],
+    [4, 0, 0],
+    [4, 0, 0],
+    [5, 0, 0],
+    [5, 0, 0],
+    [5, 0, 0],
+    [0, 32, 0],
+    [1, 32, 0],
+    [5, 0, 0],
+    [5, 0, 0],
+    [4, 0, 0],
+    [2, 32, 0],
+    [5, 0, 0],
+    [4, 0, 0],
+    [5, 0, 0],
+    [5, 0, 0],
+    [5, 0, 0],
+    [5, 0, 0],
+    [5, 0, 0],
+    [5, 0, 0],
+    [3, 32, 0xFFFFFFFFFFFFFFFC],
 ];
 
-const X64_TYPES: [u64; 39] = [
-    5,
-    0,
-    0,
-    0,
-    64,
-    0,
-    0,
-    32,
-    0,
-    1,
-    32,
-    0,
-    3,
-    32,
-    0xFFFFFFFFFFFFFFFC,
-    3,
-    32,
-    0xFFFFFFFFFFFFFFFB,
-    3,
-    32,
-    0xFFFFFFFFFFFFFFFA,
-    3,
-    32,
-    0xFFFFFFFFFFFFFFF9,
-    3,
-    32,
-    0xFFFFFFFFFFFFFFF8,
-    3,
-    32,
-    0xFFFFFFFFFFFFFFF7,
-    4,
-    0,
-    0,
-    2,
-    32,
-    0,
-    4,
-    0,
-    0,
+const X64_ROWS: usize = 13;
+
+const X64_TYPES: [[u64; 3]; X64_ROWS] = [
+    [5, 0, 0],
+    [0, 64, 0],
+    [0, 32, 0],
+    [1, 32, 0],
+    [3, 32, 0xFFFFFFFFFFFFFFFC],
+    [3, 32, 0xFFFFFFFFFFFFFFFB],
+    [3, 32, 0xFFFFFFFFFFFFFFFA],
+    [3, 32, 0xFFFFFFFFFFFFFFF9],
+    [3, 32, 0xFFFFFFFFFFFFFFF8],
+    [3, 32, 0xFFFFFFFFFFFFFFF7],
+    [4, 0, 0],
+    [2, 32, 0],
+    [4, 0, 0],
 ];
 
 // The kind of a number in the tables.
@@ -146,11 +82,11 @@ fn type_32(t: u16) -> RelocationType
     ensures { λ r. ⌜ r ≡ type32 t ⌝ }
 {
     let i = t as usize;
-    if i < 21 {
+    if i < X32_ROWS {
         RelocationType {
-            kind: kind_of(X32_TYPES[3 * i]),
-            bits: X32_TYPES[3 * i + 1],
-            addend: X32_TYPES[3 * i + 2],
+            kind: kind_of(X32_TYPES[i][0]),
+            bits: X32_TYPES[i][1],
+            addend: X32_TYPES[i][2],
         }
     } else {
         RelocationType {
@@ -165,11 +101,11 @@ fn type_64(t: u16) -> RelocationType
     ensures { λ r. ⌜ r ≡ type64 t ⌝ }
 {
     let i = t as usize;
-    if i < 13 {
+    if i < X64_ROWS {
         RelocationType {
-            kind: kind_of(X64_TYPES[3 * i]),
-            bits: X64_TYPES[3 * i + 1],
-            addend: X64_TYPES[3 * i + 2],
+            kind: kind_of(X64_TYPES[i][0]),
+            bits: X64_TYPES[i][1],
+            addend: X64_TYPES[i][2],
         }
     } else {
         RelocationType {

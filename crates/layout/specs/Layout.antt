@@ -8,10 +8,6 @@ use Rattle.arch.specs.Page.{PAGE-SIZE, pageOf}
 use Rattle.object.specs.declared.Header.{Header}
 use Rattle.object.specs.Section.{loaded, rangeLength}
 
--- the bytes of an extern slot
-abbrev pub SLOT-SIZE : ℕ
-SLOT-SIZE = 4
-
 module _ (f : List ℕ) (h : Header) where
   -- the page boundary behind section i, if it is loaded and starts at `at`; an unloaded one takes no room
   unfoldable pub nextStart : ℕ → ℕ → ℕ
@@ -30,16 +26,13 @@ module _ (f : List ℕ) (h : Header) where
   abbrev pub mappedPages : ℕ
   mappedPages = pageOf undefStart + 2
 
-  -- the section table has a record for each loaded section, in file order, and UNDEF's last; section i's stands behind those of the loaded sections below i
+  -- the section table has a record for each loaded section, in file order, and UNDEF's last; section i's stands behind those of the loaded sections
+  -- below i
   abbrev pub recordOf : ℕ → ℕ
   recordOf i = countTo (loaded f h) i
 
   abbrev pub tableRecords : ℕ
   tableRecords = recordOf (h .sections) + 1
-
-  -- one section further
-  unfoldable pub nextRecord : ℕ → ℕ → ℕ
-  nextRecord i count = pick (loaded f h i) (count + 1) count
 
   -- the starts of the sections below i, in words of 32 bits: where refusal 8 does not apply, every start fits (`starts-fit`)
   abbrev pub startsTo : ℕ → List ℕ

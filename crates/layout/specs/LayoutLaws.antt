@@ -8,6 +8,7 @@ use native.Mathlib.Nat.{le-refl, le-trans, le-of-suc-le-suc, eq-or-lt-of-le}
 use native.Mathlib.Omega.{arith}
 use Rattle.util.specs.Pick.{pick, yes-no, three-ways}
 use Rattle.util.specs.Align.{roundUp, up-multiple, up-not-below, up-near}
+use Rattle.limits.specs.Limits.{MAX-PAGES}
 use Rattle.arch.specs.Page.{PAGE-SIZE}
 use Rattle.object.specs.declared.Header.{Header}
 use Rattle.object.specs.Section.{loaded, rangeLength}
@@ -88,7 +89,7 @@ module _ (f : List ℕ) (h : Header) where
   pages-mapped = let z = undef-on-page in omega arith
 
   -- ---- where refusal 8 does not apply, every offset is below 2 ^ 24
-  module _ (room : mappedPages f h ≤ 4096) where
+  module _ (room : mappedPages f h ≤ MAX-PAGES) where
     -- UNDEF's page ends below it
     pub undef-fits : undefStart f h + PAGE-SIZE < 2 ^ 24
     undef-fits = let p = pages-mapped in omega arith

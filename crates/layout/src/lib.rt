@@ -1,147 +1,94 @@
-// The layout of the image, from load_coff_sections: where sections start, and which table record is a section's home. In offsets from the base.
+// The layout of the image, from load_coff_sections: where sections start, and where their records stand in the section table.
 use arch::PAGE_SIZE;
+use arch::RVA;
 use object::Header;
 ghost use mathlib.Core.Path.{_≡_};
-ghost use Prim.Native.Nat.{_+_, _≤_, _^_, _<_};
+ghost use Prim.Native.Nat.{_+_, _≤_, _%_, _^_, _<_};
 ghost use Rattle.le.specs.Le.{splice};
-ghost use Rattle.layout.specs.Layout.{nextStart, undefStart, mappedPages, tableRecords, nextRecord, startsTo};
-ghost use Rattle.layout.specs.Home.{isHome, isNamed, homeAt, homeOf, namedRecord, homeCell, homeRecord, homesTo, recordsTo};
-
-// A section's home: the record of a loaded section, by that section's number from 0; UNDEF's; or none.
-pub enum Home {
-    At(u32),
-    Undef,
-    Nowhere,
-}
+ghost use Rattle.arch.specs.Address.{rva};
+ghost use Rattle.layout.specs.Layout.{nextStart, startAt, undefStart, mappedPages, recordOf, tableRecords, startsTo};
 
 // The page boundary behind section i, if it is loaded and starts at `at`.
-fn next_start(f: &[u8], h: Header, i: u32, at: u64) -> u64
-    requires { ⌜ at < 2 ^ 60 ⌝ }
-    ensures { λ r. ⌜ r ≡ nextStart (now (f .entry)) h i at ⌝ }
-    ensures { λ r. ⌜ r ≤ at + 2 ^ 34 ⌝ }
+fn next_start(f: &[u8], h: Header, i: u32, at: RVA) -> RVA
+    requires { ⌜ at .0 < 2 ^ 60 ⌝ }
+    ensures { λ r. ⌜ r .0 ≡ nextStart (now (f .entry)) h i (at .0) ⌝ }
+    ensures { λ r. ⌜ r .0 ≤ at .0 + 2 ^ 34 ⌝ }
 {
     if object::is_loaded(f, h, i) {
-        util::align(at + object::range_length(f, h, i), PAGE_SIZE)
+        RVA(util::align(at.0 + object::range_length(f, h, i), PAGE_SIZE))
     } else {
         at
     }
 }
 
-// Where UNDEF starts: at the page boundary behind the loaded sections.
-pub fn undef_start(f: &[u8], h: Header) -> u64
-    ensures { λ r. ⌜ r ≡ undefStart (now (f .entry)) h ⌝ }
-    ensures { λ r. ⌜ r < 2 ^ 51 ⌝ }
+// Where section i starts.
+pub fn start_at(f: &[u8], h: Header, i: u16) -> RVA
+    ensures { λ r. ⌜ r ≡ rva (startAt (now (f .entry)) h i) ⌝ }
+    ensures { λ r. ⌜ r .0 < 2 ^ 51 ⌝ }
 {
-    let n = h.sections as u32;
     let mut at: u64 = 0;
-    let mut i: u32 = 0;
-    while i < n {
-        at = next_start(f, h, i, at);
-        i += 1;
+    let mut k: u16 = 0;
+    while k < i {
+        at = next_start(f, h, k as u32, RVA(at)).0;
+        k += 1;
     }
-    at
+    RVA(at)
+}
+
+// Where UNDEF starts: at the page boundary behind the loaded sections.
+pub fn undef_start(f: &[u8], h: Header) -> RVA
+    ensures { λ r. ⌜ r ≡ rva (undefStart (now (f .entry)) h) ⌝ }
+    ensures { λ r. ⌜ r .0 < 2 ^ 51 ⌝ }
+{
+    start_at(f, h, h.sections)
 }
 
 // The pages that are mapped.
 pub fn mapped_pages(f: &[u8], h: Header) -> u64
     ensures { λ r. ⌜ r ≡ mappedPages (now (f .entry)) h ⌝ }
 {
-    undef_start(f, h) / PAGE_SIZE + 2
+    undef_start(f, h).0 / PAGE_SIZE + 2
+}
+
+// UNDEF's start and the mapped pages in 32 bits, in which those of an image that is not too large fit.
+pub fn undef_offset(f: &[u8], h: Header) -> u32
+    ensures { λ r. ⌜ r ≡ undefStart (now (f .entry)) h % 2 ^ 32 ⌝ }
+{
+    let at = undef_start(f, h).0 % 0x100000000;
+    at as u32
+}
+
+// The mapped pages in 32 bits.
+pub fn page_total(f: &[u8], h: Header) -> u32
+    ensures { λ r. ⌜ r ≡ mappedPages (now (f .entry)) h % 2 ^ 32 ⌝ }
+{
+    let pages = mapped_pages(f, h) % 0x100000000;
+    pages as u32
+}
+
+// The record of section i in the section table: how many loaded sections stand before it.
+pub fn record_of(f: &[u8], h: Header, i: u16) -> u32
+    ensures { λ r. ⌜ r ≡ recordOf (now (f .entry)) h i ⌝ }
+    ensures { λ r. ⌜ r ≤ i ⌝ }
+{
+    let mut count: u32 = 0;
+    let mut k: u16 = 0;
+    while k < i {
+        if object::is_loaded(f, h, k as u32) {
+            count += 1;
+            k += 1;
+        } else {
+            k += 1;
+        }
+    }
+    count
 }
 
 // How many records the section table has, UNDEF's included.
 pub fn table_records(f: &[u8], h: Header) -> u32
     ensures { λ r. ⌜ r ≡ tableRecords (now (f .entry)) h ⌝ }
 {
-    let n = h.sections as u32;
-    let mut count: u32 = 0;
-    let mut i: u32 = 0;
-    while i < n {
-        if object::is_loaded(f, h, i) {
-            count += 1;
-            i += 1;
-        } else {
-            i += 1;
-        }
-    }
-    count + 1
-}
-
-// Whether section j is loaded and starts at `s` in the file.
-fn is_home(f: &[u8], h: Header, s: u32, j: u32) -> bool
-    ensures { λ r. ⌜ r ≡ isHome (now (f .entry)) h s j ⌝ }
-{
-    if object::is_loaded(f, h, j) {
-        object::file_start(f, h, j) == s
-    } else {
-        false
-    }
-}
-
-// Of the first table record that starts at `s` in the file: its start and one, or 0 where there is none.
-fn cell_of_start(f: &[u8], h: Header, s: u32) -> u64
-    ensures { λ r. ⌜ r ≡ homeCell (now (f .entry)) h (homeAt (now (f .entry)) h s) ⌝ }
-{
-    let n = h.sections as u32;
-    let mut at: u64 = 0;
-    let mut j: u32 = 0;
-    while j < n {
-        if is_home(f, h, s, j) {
-            return at + 1;
-        }
-        at = next_start(f, h, j, at);
-        j += 1;
-    }
-    let undef = s == 0;
-    if undef { at + 1 } else { 0 }
-}
-
-// The home of section i: its start and one, or 0 where it has none.
-pub fn home_cell(f: &[u8], h: Header, i: u32) -> u64
-    ensures { λ r. ⌜ r ≡ homeCell (now (f .entry)) h (homeOf (now (f .entry)) h i) ⌝ }
-{
-    cell_of_start(f, h, object::file_start(f, h, i))
-}
-
-// Whether section j is loaded and has that name.
-fn is_named(f: &[u8], h: Header, name: &[u8], j: u32) -> bool
-    ensures { λ r. ⌜ r ≡ isNamed (now (f .entry)) h (now (name .entry)) j ⌝ }
-{
-    if object::is_loaded(f, h, j) {
-        names::same(names::section_text(f, h, j), name)
-    } else {
-        false
-    }
-}
-
-// Of the first table record of that name, "UNDEF" too: its start and one, or 0 where there is none.
-pub fn named_cell(f: &[u8], h: Header, name: &[u8]) -> u64
-    ensures { λ r. ⌜ r ≡ homeCell (now (f .entry)) h (namedRecord (now (f .entry)) h (now (name .entry))) ⌝ }
-{
-    let n = h.sections as u32;
-    let mut at: u64 = 0;
-    let mut j: u32 = 0;
-    while j < n {
-        if is_named(f, h, name, j) {
-            return at + 1;
-        }
-        at = next_start(f, h, j, at);
-        j += 1;
-    }
-    if names::is_undef(name) { at + 1 } else { 0 }
-}
-
-// The homes of all sections, a word each.
-pub fn fill_homes(f: &[u8], h: Header, homes: &mut [u32])
-    ensures { λ _. ⌜ now (homes .exit) ≡ splice (now (homes .entry)) 0 (homesTo (now (f .entry)) h (h .sections)) ⌝ }
-{
-    let n = h.sections as u32;
-    let mut i: u32 = 0;
-    while i < n {
-        let cell = home_cell(f, h, i) % 0x100000000;
-        le::put_word(homes, i as usize, cell as u32);
-        i += 1;
-    }
+    record_of(f, h, h.sections) + 1
 }
 
 // The starts of all sections, a word each.
@@ -154,55 +101,7 @@ pub fn fill_starts(f: &[u8], h: Header, starts: &mut [u32])
     while i < n {
         let low = at % 0x100000000;
         le::put_word(starts, i as usize, low as u32);
-        at = next_start(f, h, i, at);
-        i += 1;
-    }
-}
-
-// How many table records stand before section j + 1's, if `count` do before section j's.
-fn next_record(f: &[u8], h: Header, j: u32, count: u32) -> u32
-    requires { ⌜ (count ≤ j) × (j < 2 ^ 16) ⌝ }
-    ensures { λ r. ⌜ r ≡ nextRecord (now (f .entry)) h j count ⌝ }
-{
-    if object::is_loaded(f, h, j) {
-        count + 1
-    } else {
-        count
-    }
-}
-
-// The record in the section table of section i's home, 0 where it has none.
-pub fn home_record(f: &[u8], h: Header, i: u32) -> u32
-    ensures { λ r. ⌜ r ≡ homeRecord (now (f .entry)) h (homeOf (now (f .entry)) h i) ⌝ }
-{
-    record_of_start(f, h, object::file_start(f, h, i))
-}
-
-fn record_of_start(f: &[u8], h: Header, s: u32) -> u32
-    ensures { λ r. ⌜ r ≡ homeRecord (now (f .entry)) h (homeAt (now (f .entry)) h s) ⌝ }
-{
-    let n = h.sections as u32;
-    let mut count: u32 = 0;
-    let mut j: u32 = 0;
-    while j < n {
-        if is_home(f, h, s, j) {
-            return count;
-        }
-        count = next_record(f, h, j, count);
-        j += 1;
-    }
-    let undef = s == 0;
-    if undef { count } else { 0 }
-}
-
-// The records of all sections' homes, a word each.
-pub fn fill_records(f: &[u8], h: Header, records: &mut [u32])
-    ensures { λ _. ⌜ now (records .exit) ≡ splice (now (records .entry)) 0 (recordsTo (now (f .entry)) h (h .sections)) ⌝ }
-{
-    let n = h.sections as u32;
-    let mut i: u32 = 0;
-    while i < n {
-        le::put_word(records, i as usize, home_record(f, h, i));
+        at = next_start(f, h, i, RVA(at)).0;
         i += 1;
     }
 }

@@ -5,6 +5,7 @@ ghost use lib.ListN.{getD, replicate};
 ghost use mathlib.Core.List.{[], _∷_};
 ghost use Rattle.le.specs.Le.{get, le, part, splice};
 
+// The byte at a place.
 pub fn byte_at(s: &[u8], at: usize) -> u8
     ensures { λ r. ⌜ r ≡ getD (now (s .entry)) at 0 ⌝ }
 {
@@ -29,6 +30,7 @@ fn join64(low: u32, high: u32) -> u64
     low as u64 + 4294967296 * (high as u64)
 }
 
+// The number of two bytes there.
 pub fn u16_at(s: &[u8], at: usize) -> u16
     ensures { λ r. ⌜ r ≡ get 2 (now (s .entry)) at ⌝ }
 {
@@ -58,6 +60,7 @@ pub fn u32_at(s: &[u8], at: usize) -> u32
     }
 }
 
+// Of eight bytes.
 pub fn u64_at(s: &[u8], at: usize) -> u64
     ensures { λ r. ⌜ r ≡ get 8 (now (s .entry)) at ⌝ }
 {
@@ -142,6 +145,7 @@ pub fn put(b: &mut [u8], at: usize, n: usize, v: u64)
     }
 }
 
+// A byte at a place.
 pub fn put_u8(b: &mut [u8], at: usize, v: u8)
     ensures { λ _. ⌜ now (b .exit) ≡ splice (now (b .entry)) at (v ∷ []) ⌝ }
 {
@@ -150,6 +154,7 @@ pub fn put_u8(b: &mut [u8], at: usize, v: u8)
     }
 }
 
+// The two bytes of a number.
 pub fn put_u16(b: &mut [u8], at: usize, v: u16)
     ensures { λ _. ⌜ now (b .exit) ≡ splice (now (b .entry)) at (le 2 v) ⌝ }
 {
@@ -173,6 +178,7 @@ pub fn put_u32(b: &mut [u8], at: usize, v: u32)
     }
 }
 
+// The eight bytes of a number.
 pub fn put_u64(b: &mut [u8], at: usize, v: u64)
     ensures { λ _. ⌜ now (b .exit) ≡ splice (now (b .entry)) at (le 8 v) ⌝ }
 {
@@ -204,6 +210,7 @@ pub fn word_at(s: &[u32], at: usize) -> u32
     if at < s.len() { s[at] } else { 0 }
 }
 
+// An element of a list of words.
 pub fn put_word(b: &mut [u32], at: usize, v: u32)
     ensures { λ _. ⌜ now (b .exit) ≡ splice (now (b .entry)) at (v ∷ []) ⌝ }
 {
@@ -212,6 +219,7 @@ pub fn put_word(b: &mut [u32], at: usize, v: u32)
     }
 }
 
+// The first n elements, or all.
 pub fn words(s: &[u32], n: usize) -> &[u32]
     ensures { λ r. ⌜ now r ≡ part (now (s .entry)) 0 n ⌝ }
 {

@@ -5,15 +5,18 @@ pub fn line(s: &[u8]) {
     io::write_all(1, b"\n");
 }
 
+// Bytes as they stand.
 pub fn text(s: &[u8]) {
     io::write_all(1, s);
 }
 
+// Bytes, and a number in decimal.
 pub fn part(word: &[u8], n: u64) {
     io::write_all(1, word);
     io::print_decimal(1, n);
 }
 
+// Bytes, and a number in hexadecimal.
 pub fn address(word: &[u8], n: u64) {
     io::write_all(1, word);
     io::print_hex(1, n, 1);

@@ -18,6 +18,7 @@ fn word(table: &[u8], at: u32, k: u8) -> u64 {
     le::u64_at(table, at as usize + k as usize * 8)
 }
 
+// A line, or a part of one, for each record of a table.
 pub fn rows(kind: Row, f: &[u8], table: &[u8], n: u16) {
     let mut i: u16 = 0;
     while i < n {
@@ -28,13 +29,13 @@ pub fn rows(kind: Row, f: &[u8], table: &[u8], n: u16) {
 
 fn write(kind: Row, f: &[u8], t: &[u8], i: u16) {
     match kind {
-        Row::Section => section(f, t, i as u32 * 64),
-        Row::Symbol => symbol(f, t, i as u32 * 48),
-        Row::Extern => extern_name(f, t, i as u32 * 32),
-        Row::Fixup => fix(t, i as u32 * 24),
-        Row::Skip => skip(t, i as u32 * 24),
-        Row::SymbolNumber => say::part(b" ", word(t, i as u32 * 48, 4)),
-        Row::ExternNumber => say::part(b" ", word(t, i as u32 * 32, 1)),
+        Row::Section => section(f, t, i as u32 * limits::SECTION_BYTES as u32),
+        Row::Symbol => symbol(f, t, i as u32 * limits::SYMBOL_BYTES as u32),
+        Row::Extern => extern_name(f, t, i as u32 * limits::EXTERN_BYTES as u32),
+        Row::Fixup => fix(t, i as u32 * limits::FIXUP_BYTES as u32),
+        Row::Skip => skip(t, i as u32 * limits::SKIP_BYTES as u32),
+        Row::SymbolNumber => say::part(b" ", word(t, i as u32 * limits::SYMBOL_BYTES as u32, 4)),
+        Row::ExternNumber => say::part(b" ", word(t, i as u32 * limits::EXTERN_BYTES as u32, 1)),
         Row::MarkWord => say::address(b" ", word(t, i as u32 * 8, 0)),
     }
 }

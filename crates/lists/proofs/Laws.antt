@@ -5,22 +5,23 @@ use Prim.Native.Nat.{ℕ, _+_, _*_, _%_, _^_, _≤_, _<_}
 use native.Mathlib.Omega.{arith}
 use native.Mathlib.Numerals.{add-one}
 use lib.ListN.{length, length-append}
+use Rattle.limits.specs.Limits.{FIXUP-BYTES, SKIP-BYTES}
 use Rattle.le.specs.Le.{splice, splice-next, splice-long}
 use Rattle.targets.specs.declared.Skip.{Skip}
 use Rattle.fixups.specs.declared.Fix.{Fix}
 use Rattle.fixups.specs.declared.Outcome.{Outcome}
-use Rattle.fixups.specs.declared.Outcome.the-variants.{Passed, Skipped, TurnedDown, Fixup}
+use Rattle.fixups.specs.declared.Outcome.the-variants.{Passed, Skipped, Refused, Fixup}
 use Rattle.targets.specs.Target.{skipNumber}
 use Rattle.fixups.specs.Value.{valueOf}
-use Rattle.fixups.specs.Lists.{recordsTo, sectionsTo}
-use Rattle.lists.specs.declared.Places.{Places}
-use Rattle.words.specs.Words.{wordBytes, length-words}
+use Rattle.fixups.specs.Lists.{overRecords, overSections}
+use Rattle.lists.specs.declared.Rows.{Rows}
+use Rattle.words.specs.Words.{wordBytes, length-words, word-low}
 use Rattle.lists.specs.Relocations.{fixWords, skipWords, fixBytes, skipBytes, fixBytesAt, skipBytesAt, Written, Near, Step, BothWritten}
 
 -- ---- one record
-pub fix-put : (base : ℕ) (x : Fix) (b c : List ℕ) (k at v : ℕ) → at ≡ (base + x .place) % 2 ^ 64 → v ≡ valueOf base x → c ≡ splice b k (wordBytes (at ∷ x .bits ∷ v ∷ [])) → c ≡ splice b k (wordBytes (fixWords base x))
+pub fix-put : (base : ℕ) (x : Fix) (b c : List ℕ) (k at v : ℕ) → at ≡ (base + x .place .0) % 2 ^ 64 → v ≡ valueOf base x → c ≡ splice b k (wordBytes (at ∷ x .bits ∷ v ∷ [])) → c ≡ splice b k (wordBytes (fixWords base x))
 unfolding fixWords
-fix-put base x b c k at v e q d = rw (← e, ← q) d
+fix-put base x b c k at v e q d = rw (← q) (d ∙ ap (splice b k) (rw e (word-low (base + x .place .0) (x .bits ∷ v ∷ []))))
 
 pub skip-put : (i j : ℕ) (s : Skip) (b c : List ℕ) (k v : ℕ) → v ≡ skipNumber s → c ≡ splice b k (wordBytes ((i + 1) ∷ j ∷ v ∷ [])) → c ≡ splice b k (wordBytes (skipWords i j s))
 unfolding skipWords
@@ -30,130 +31,130 @@ splice-nothing : (b : List ℕ) (k : ℕ) → b ≡ splice b k []
 unfolding splice
 splice-nothing b k = refl
 
-length-fix : (base : ℕ) (x : Fix) → length (wordBytes (fixWords base x)) ≡ 24
+length-fix : (base : ℕ) (x : Fix) → length (wordBytes (fixWords base x)) ≡ FIXUP-BYTES
 unfolding fixWords
 length-fix base x = length-words (fixWords base x)
 
-length-skip : (i k : ℕ) (s : Skip) → length (wordBytes (skipWords i k s)) ≡ 24
+length-skip : (i k : ℕ) (s : Skip) → length (wordBytes (skipWords i k s)) ≡ SKIP-BYTES
 unfolding skipWords
 length-skip i k s = length-words (skipWords i k s)
 
 -- ---- one outcome
-module _ (base i k : ℕ) (o : Outcome) (p : Places) (b c : List ℕ) where
+module _ (base i k : ℕ) (o : Outcome) (p : Rows) (b c : List ℕ) where
   pub step-passed : o ≡ Passed → Step p (fixBytes base o) (skipBytes i k o) b b c c p 1
   step-passed e =
       rw e
       (record {
-        written = record { fixes = splice-nothing b (24 * p .fixups); skips = splice-nothing c (24 * p .skips); fixCount = omega arith; skipCount = omega arith };
+        written = record { fixes = splice-nothing b (FIXUP-BYTES * p .fixups); skips = splice-nothing c (SKIP-BYTES * p .skips); fixCount = omega arith; skipCount = omega arith };
         near = record { fixes = omega arith; skips = omega arith };
       })
 
-  pub step-refused : o ≡ TurnedDown → Step p (fixBytes base o) (skipBytes i k o) b b c c p 1
+  pub step-refused : o ≡ Refused → Step p (fixBytes base o) (skipBytes i k o) b b c c p 1
   step-refused e =
       rw e
       (record {
-        written = record { fixes = splice-nothing b (24 * p .fixups); skips = splice-nothing c (24 * p .skips); fixCount = omega arith; skipCount = omega arith };
+        written = record { fixes = splice-nothing b (FIXUP-BYTES * p .fixups); skips = splice-nothing c (SKIP-BYTES * p .skips); fixCount = omega arith; skipCount = omega arith };
         near = record { fixes = omega arith; skips = omega arith };
       })
 
-  pub step-skipped : (s : Skip) (c′ : List ℕ) → o ≡ Skipped s → c′ ≡ splice c (24 * p .skips) (wordBytes (skipWords i k s))
+  pub step-skipped : (s : Skip) (c′ : List ℕ) → o ≡ Skipped s → c′ ≡ splice c (SKIP-BYTES * p .skips) (wordBytes (skipWords i k s))
       → Step p (fixBytes base o) (skipBytes i k o) b b c c′ (record { fixups = p .fixups; skips = p .skips + 1 }) 1
   step-skipped s c′ e d =
       let z = length-skip i k s in
       rw e
       (record {
-        written = record { fixes = splice-nothing b (24 * p .fixups); skips = d; fixCount = omega arith; skipCount = omega arith };
+        written = record { fixes = splice-nothing b (FIXUP-BYTES * p .fixups); skips = d; fixCount = omega arith; skipCount = omega arith };
         near = record { fixes = omega arith; skips = omega arith };
       })
 
-  pub step-fixup : (x : Fix) (b′ : List ℕ) → o ≡ Fixup x → b′ ≡ splice b (24 * p .fixups) (wordBytes (fixWords base x))
+  pub step-fixup : (x : Fix) (b′ : List ℕ) → o ≡ Fixup x → b′ ≡ splice b (FIXUP-BYTES * p .fixups) (wordBytes (fixWords base x))
       → Step p (fixBytes base o) (skipBytes i k o) b b′ c c (record { fixups = p .fixups + 1; skips = p .skips }) 1
   step-fixup x b′ e d =
       let z = length-fix base x in
       rw e
       (record {
-        written = record { fixes = d; skips = splice-nothing c (24 * p .skips); fixCount = omega arith; skipCount = omega arith };
+        written = record { fixes = d; skips = splice-nothing c (SKIP-BYTES * p .skips); fixCount = omega arith; skipCount = omega arith };
         near = record { fixes = omega arith; skips = omega arith };
       })
 
 pub ruleset outcome-steps = (step-passed, step-refused, step-skipped, step-fixup)
 
 -- ---- one after another
-pub written-none : (p : Places) (b c : List ℕ) → Written p [] [] b b c c p
-written-none p b c = record { fixes = splice-nothing b (24 * p .fixups); skips = splice-nothing c (24 * p .skips); fixCount = omega arith; skipCount = omega arith }
+pub written-none : (p : Rows) (b c : List ℕ) → Written p [] [] b b c c p
+written-none p b c = record { fixes = splice-nothing b (FIXUP-BYTES * p .fixups); skips = splice-nothing c (SKIP-BYTES * p .skips); fixCount = omega arith; skipCount = omega arith }
 
-pub written-on : (p q r : Places) (F S F′ S′ b b′ b″ c c′ c″ : List ℕ) → Written p F S b b′ c c′ q → Written q F′ S′ b′ b″ c′ c″ r → Written p (F ++ F′) (S ++ S′) b b″ c c″ r
+pub written-on : (p q r : Rows) (F S F′ S′ b b′ b″ c c′ c″ : List ℕ) → Written p F S b b′ c c′ q → Written q F′ S′ b′ b″ c′ c″ r → Written p (F ++ F′) (S ++ S′) b b″ c c″ r
 written-on p q r F S F′ S′ b b′ b″ c c′ c″ w v =
     record {
-      fixes = v .fixes ∙ ap (λ (l : List ℕ). splice l (24 * q .fixups) F′) (w .fixes) ∙ splice-next b (24 * p .fixups) F F′ (24 * q .fixups) (w .fixCount);
-      skips = v .skips ∙ ap (λ (l : List ℕ). splice l (24 * q .skips) S′) (w .skips) ∙ splice-next c (24 * p .skips) S S′ (24 * q .skips) (w .skipCount);
+      fixes = v .fixes ∙ ap (λ (l : List ℕ). splice l (FIXUP-BYTES * q .fixups) F′) (w .fixes) ∙ splice-next b (FIXUP-BYTES * p .fixups) F F′ (FIXUP-BYTES * q .fixups) (w .fixCount);
+      skips = v .skips ∙ ap (λ (l : List ℕ). splice l (SKIP-BYTES * q .skips) S′) (w .skips) ∙ splice-next c (SKIP-BYTES * p .skips) S S′ (SKIP-BYTES * q .skips) (w .skipCount);
       fixCount = let e = length-append F F′ in let x = w .fixCount in let y = v .fixCount in omega arith;
       skipCount = let e = length-append S S′ in let x = w .skipCount in let y = v .skipCount in omega arith;
     }
 
-pub near-on : (p q r : Places) (n m : ℕ) → Near p q n → Near q r m → Near p r (n + m)
+pub near-on : (p q r : Rows) (n m : ℕ) → Near p q n → Near q r m → Near p r (n + m)
 near-on p q r n m x y = record { fixes = omega (arith, x .fixes, y .fixes); skips = omega (arith, x .skips, y .skips) }
 
-pub step-on : (p q r : Places) (F S F′ S′ b b′ b″ c c′ c″ : List ℕ) (n m : ℕ) → Step p F S b b′ c c′ q n → Step q F′ S′ b′ b″ c′ c″ r m → Step p (F ++ F′) (S ++ S′) b b″ c c″ r (n + m)
+pub step-on : (p q r : Rows) (F S F′ S′ b b′ b″ c c′ c″ : List ℕ) (n m : ℕ) → Step p F S b b′ c c′ q n → Step q F′ S′ b′ b″ c′ c″ r m → Step p (F ++ F′) (S ++ S′) b b″ c c″ r (n + m)
 step-on p q r F S F′ S′ b b′ b″ c c′ c″ n m x y =
     record { written = written-on p q r F S F′ S′ b b′ b″ c c′ c″ (x .written) (y .written); near = near-on p q r n m (x .near) (y .near) }
 
 -- ---- the records of a section
-module _ (base : ℕ) (o : ℕ → ℕ → Outcome) (i : ℕ) (p : Places) (b c : List ℕ) where
-  pub row-none : Step p (recordsTo (fixBytesAt base o) i 0) (recordsTo (skipBytesAt o) i 0) b b c c p 0
-  unfolding recordsTo
+module _ (base : ℕ) (o : ℕ → ℕ → Outcome) (i : ℕ) (p : Rows) (b c : List ℕ) where
+  pub row-none : Step p (overRecords (fixBytesAt base o) i 0) (overRecords (skipBytesAt o) i 0) b b c c p 0
+  unfolding overRecords
   row-none = record { written = written-none p b c; near = record { fixes = omega arith; skips = omega arith } }
 
-  pub row-again : (k : ℕ) (q r : Places) (x : Outcome) (b′ b″ c′ c″ : List ℕ) → Step p (recordsTo (fixBytesAt base o) i k) (recordsTo (skipBytesAt o) i k) b b′ c c′ q k → x ≡ o i k
-      → Step q (fixBytes base x) (skipBytes i k x) b′ b″ c′ c″ r 1 → Step p (recordsTo (fixBytesAt base o) i (k + 1)) (recordsTo (skipBytesAt o) i (k + 1)) b b″ c c″ r (k + 1)
-  unfolding recordsTo fixBytesAt skipBytesAt
+  pub row-again : (k : ℕ) (q r : Rows) (x : Outcome) (b′ b″ c′ c″ : List ℕ) → Step p (overRecords (fixBytesAt base o) i k) (overRecords (skipBytesAt o) i k) b b′ c c′ q k → x ≡ o i k
+      → Step q (fixBytes base x) (skipBytes i k x) b′ b″ c′ c″ r 1 → Step p (overRecords (fixBytesAt base o) i (k + 1)) (overRecords (skipBytesAt o) i (k + 1)) b b″ c c″ r (k + 1)
+  unfolding overRecords fixBytesAt skipBytesAt
   row-again k q r x b′ b″ c′ c″ s e t =
-      let z = step-on p q r (recordsTo (fixBytesAt base o) i k) (recordsTo (skipBytesAt o) i k) (fixBytes base x) (skipBytes i k x) b b′ b″ c c′ c″ k 1 s t in
+      let z = step-on p q r (overRecords (fixBytesAt base o) i k) (overRecords (skipBytesAt o) i k) (fixBytes base x) (skipBytes i k x) b b′ b″ c c′ c″ k 1 s t in
       rw (add-one k) (rw (add-one k, e) at z)
 
-  pub row-end : (k m n : ℕ) (q : Places) (b′ c′ : List ℕ) → Step p (recordsTo (fixBytesAt base o) i k) (recordsTo (skipBytesAt o) i k) b b′ c c′ q k → k ≤ m → m ≤ k → m ≡ n → m < 2 ^ 32
-      → Step p (recordsTo (fixBytesAt base o) i n) (recordsTo (skipBytesAt o) i n) b b′ c c′ q (2 ^ 32)
+  pub row-end : (k m n : ℕ) (q : Rows) (b′ c′ : List ℕ) → Step p (overRecords (fixBytesAt base o) i k) (overRecords (skipBytesAt o) i k) b b′ c c′ q k → k ≤ m → m ≤ k → m ≡ n → m < 2 ^ 32
+      → Step p (overRecords (fixBytesAt base o) i n) (overRecords (skipBytesAt o) i n) b b′ c c′ q (2 ^ 32)
   row-end k m n q b′ c′ s a d e l =
       let z : k ≡ n = omega arith in
       let t = rw z at s in
       record { written = t .written; near = record { fixes = omega (arith, t .near .fixes); skips = omega (arith, t .near .skips) } }
 
-  pub row-room : (k m : ℕ) (F S b′ c′ : List ℕ) (q : Places) → Step p F S b b′ c c′ q k → p .fixups ≤ 2 ^ 32 * i → p .skips ≤ 2 ^ 32 * i → i < 2 ^ 16 → k < m → m < 2 ^ 32
+  pub row-room : (k m : ℕ) (F S b′ c′ : List ℕ) (q : Rows) → Step p F S b b′ c c′ q k → p .fixups ≤ 2 ^ 32 * i → p .skips ≤ 2 ^ 32 * i → i < 2 ^ 16 → k < m → m < 2 ^ 32
       → (q .fixups < 2 ^ 50) × (q .skips < 2 ^ 50)
   row-room k m F S b′ c′ q s x y a d e = (omega (arith, s .near .fixes), omega (arith, s .near .skips))
 
 -- ---- the sections
-abbrev pub none : Places
+abbrev pub none : Rows
 none = record { fixups = 0; skips = 0 }
 
 module _ (base : ℕ) (o : ℕ → ℕ → Outcome) (count : ℕ → ℕ) (b c : List ℕ) where
-  pub rows-none : Step none (sectionsTo (fixBytesAt base o) count 0) (sectionsTo (skipBytesAt o) count 0) b b c c none (2 ^ 32 * 0)
-  unfolding sectionsTo
+  pub rows-none : Step none (overSections (fixBytesAt base o) count 0) (overSections (skipBytesAt o) count 0) b b c c none (2 ^ 32 * 0)
+  unfolding overSections
   rows-none = record { written = written-none none b c; near = record { fixes = omega arith; skips = omega arith } }
 
-  pub rows-again : (i : ℕ) (q r : Places) (b′ b″ c′ c″ : List ℕ) → Step none (sectionsTo (fixBytesAt base o) count i) (sectionsTo (skipBytesAt o) count i) b b′ c c′ q (2 ^ 32 * i)
-      → Step q (recordsTo (fixBytesAt base o) i (count i)) (recordsTo (skipBytesAt o) i (count i)) b′ b″ c′ c″ r (2 ^ 32)
-      → Step none (sectionsTo (fixBytesAt base o) count (i + 1)) (sectionsTo (skipBytesAt o) count (i + 1)) b b″ c c″ r (2 ^ 32 * (i + 1))
-  unfolding sectionsTo
+  pub rows-again : (i : ℕ) (q r : Rows) (b′ b″ c′ c″ : List ℕ) → Step none (overSections (fixBytesAt base o) count i) (overSections (skipBytesAt o) count i) b b′ c c′ q (2 ^ 32 * i)
+      → Step q (overRecords (fixBytesAt base o) i (count i)) (overRecords (skipBytesAt o) i (count i)) b′ b″ c′ c″ r (2 ^ 32)
+      → Step none (overSections (fixBytesAt base o) count (i + 1)) (overSections (skipBytesAt o) count (i + 1)) b b″ c c″ r (2 ^ 32 * (i + 1))
+  unfolding overSections
   rows-again i q r b′ b″ c′ c″ s t =
       let z =
-      step-on none q r (sectionsTo (fixBytesAt base o) count i) (sectionsTo (skipBytesAt o) count i) (recordsTo (fixBytesAt base o) i (count i)) (recordsTo (skipBytesAt o) i (count i)) b b′ b″ c c′ c″
+      step-on none q r (overSections (fixBytesAt base o) count i) (overSections (skipBytesAt o) count i) (overRecords (fixBytesAt base o) i (count i)) (overRecords (skipBytesAt o) i (count i)) b b′ b″ c c′ c″
       (2 ^ 32 * i) (2 ^ 32) s t in
       rw (add-one i) (record { written = z .written; near = record { fixes = omega (arith, z .near .fixes); skips = omega (arith, z .near .skips) } })
 
-  pub rows-end : (i n m : ℕ) (q : Places) (b′ c′ : List ℕ) → Step none (sectionsTo (fixBytesAt base o) count i) (sectionsTo (skipBytesAt o) count i) b b′ c c′ q (2 ^ 32 * i) → i ≤ n → n ≤ i → n ≡ m
-      → BothWritten (sectionsTo (fixBytesAt base o) count m) (sectionsTo (skipBytesAt o) count m) b b′ c c′
+  pub rows-end : (i n m : ℕ) (q : Rows) (b′ c′ : List ℕ) → Step none (overSections (fixBytesAt base o) count i) (overSections (skipBytesAt o) count i) b b′ c c′ q (2 ^ 32 * i) → i ≤ n → n ≤ i → n ≡ m
+      → BothWritten (overSections (fixBytesAt base o) count m) (overSections (skipBytesAt o) count m) b b′ c c′
   rows-end i n m q b′ c′ s a d e =
       let z : i ≡ m = omega arith in
       let t = rw z at s in
       record { fixes = t .written .fixes; skips = t .written .skips }
 
-  pub rows-room : (i : ℕ) (F S b′ c′ : List ℕ) (q : Places) → Step none F S b b′ c c′ q (2 ^ 32 * i) → i < 2 ^ 16 → (i < 2 ^ 16) × (q .fixups ≤ 2 ^ 32 * i) × (q .skips ≤ 2 ^ 32 * i)
+  pub rows-room : (i : ℕ) (F S b′ c′ : List ℕ) (q : Rows) → Step none F S b b′ c c′ q (2 ^ 32 * i) → i < 2 ^ 16 → (i < 2 ^ 16) × (q .fixups ≤ 2 ^ 32 * i) × (q .skips ≤ 2 ^ 32 * i)
   rows-room i F S b′ c′ q s a = (a, omega (arith, s .near .fixes), omega (arith, s .near .skips))
 
 -- no byte more or less
-pub fixes-long : (p q : Places) (F S b b′ c c′ : List ℕ) (n : ℕ) → Step p F S b b′ c c′ q n → length b′ ≡ length b
-fixes-long p q F S b b′ c c′ n s = splice-long b b′ (24 * p .fixups) F (s .written .fixes)
+pub fixes-long : (p q : Rows) (F S b b′ c c′ : List ℕ) (n : ℕ) → Step p F S b b′ c c′ q n → length b′ ≡ length b
+fixes-long p q F S b b′ c c′ n s = splice-long b b′ (FIXUP-BYTES * p .fixups) F (s .written .fixes)
 
-pub skips-long : (p q : Places) (F S b b′ c c′ : List ℕ) (n : ℕ) → Step p F S b b′ c c′ q n → length c′ ≡ length c
-skips-long p q F S b b′ c c′ n s = splice-long c c′ (24 * p .skips) S (s .written .skips)
+pub skips-long : (p q : Rows) (F S b b′ c c′ : List ℕ) (n : ℕ) → Step p F S b b′ c c′ q n → length c′ ≡ length c
+skips-long p q F S b b′ c c′ n s = splice-long c c′ (SKIP-BYTES * p .skips) S (s .written .skips)

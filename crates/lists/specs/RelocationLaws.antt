@@ -5,17 +5,18 @@ use Prim.Native.Nat.{ℕ, zero, suc, _+_, _*_, _%_, _^_, _≤_, _<_}
 use native.Mathlib.Omega.{arith}
 use native.Mathlib.Nat.{add-zero, mod-mod}
 use lib.ListN.{length, getD}
+use Rattle.limits.specs.Limits.{FIXUP-BYTES, SKIP-BYTES}
 use Rattle.le.specs.Le.{get, splice}
 use Rattle.targets.specs.declared.Skip.{Skip}
 use Rattle.targets.specs.declared.Skip.the-variants.{NoSymbol, NoHome, NoSlot, NoType}
 use Rattle.fixups.specs.declared.Fix.{Fix}
 use Rattle.fixups.specs.declared.Outcome.{Outcome}
-use Rattle.fixups.specs.declared.Outcome.the-variants.{Passed, Skipped, TurnedDown, Fixup}
+use Rattle.fixups.specs.declared.Outcome.the-variants.{Passed, Skipped, Refused, Fixup}
 use Rattle.targets.specs.Target.{skipNumber}
 use Rattle.fixups.specs.Value.{valueOf}
 use Rattle.fixups.specs.Tally.{isFixup, isSkipped, howMany}
 use Rattle.fixups.specs.TallyLaws.{fixups-counted, skips-counted}
-use Rattle.fixups.specs.Lists.{recordsTo, sectionsTo, fixesOf, fixAtRecord, fixList, SkipAt, skipsOf, skipAtRecord, skipList}
+use Rattle.fixups.specs.Lists.{overRecords, overSections, fixesOf, fixAtRecord, fixList, SkipAt, skipsOf, skipAtRecord, skipList}
 use Rattle.words.specs.Words.{wordBytes, length-words}
 use Rattle.words.specs.Rows.{rowWords, rows-join, length-rows, row-back}
 use Rattle.lists.specs.Relocations.{fixWords, skipWords, fixBytes, skipBytes, fixBytesAt, skipBytesAt, fixTable, skipTable}
@@ -23,15 +24,15 @@ use Rattle.lists.specs.Relocations.{fixWords, skipWords, fixBytes, skipB
 -- ---- what each relocation gives, as bytes, are the rows of what it gives as records
 module _ {A : Type 0} (words : A → List ℕ) (out : ℕ → ℕ → List A) (bytes : ℕ → ℕ → List ℕ)
     (each : (i k : ℕ) → bytes i k ≡ wordBytes (rowWords words (out i k))) where
-  records-rows : (i k : ℕ) → recordsTo bytes i k ≡ wordBytes (rowWords words (recordsTo out i k))
-  unfolding recordsTo rowWords wordBytes
+  records-rows : (i k : ℕ) → overRecords bytes i k ≡ wordBytes (rowWords words (overRecords out i k))
+  unfolding overRecords rowWords wordBytes
   records-rows i zero = refl
-  records-rows i (suc k) = rw (records-rows i k, each i k) (rows-join words (recordsTo out i k) (out i k))
+  records-rows i (suc k) = rw (records-rows i k, each i k) (rows-join words (overRecords out i k) (out i k))
 
-  sections-rows : (count : ℕ → ℕ) (n : ℕ) → sectionsTo bytes count n ≡ wordBytes (rowWords words (sectionsTo out count n))
-  unfolding sectionsTo rowWords wordBytes
+  sections-rows : (count : ℕ → ℕ) (n : ℕ) → overSections bytes count n ≡ wordBytes (rowWords words (overSections out count n))
+  unfolding overSections rowWords wordBytes
   sections-rows count zero = refl
-  sections-rows count (suc n) = rw (sections-rows count n, records-rows n (count n)) (rows-join words (sectionsTo out count n) (recordsTo out n (count n)))
+  sections-rows count (suc n) = rw (sections-rows count n, records-rows n (count n)) (rows-join words (overSections out count n) (overRecords out n (count n)))
 
 -- ---- fixups
 abbrev pub fixRows : ℕ → List Fix → List ℕ
@@ -45,7 +46,7 @@ fix-row : (base : ℕ) (x : Outcome) → fixBytes base x ≡ wordBytes (fixRows 
 unfolding rowWords wordBytes
 fix-row base Passed = refl
 fix-row base (Skipped s) = refl
-fix-row base TurnedDown = refl
+fix-row base Refused = refl
 fix-row base (Fixup x) = ap wordBytes (sym (append-nil (fixWords base x)))
 
 value-fits : (base : ℕ) (x : Fix) → valueOf base x % 2 ^ 64 ≡ valueOf base x
@@ -57,31 +58,31 @@ module _ (base : ℕ) (o : ℕ → ℕ → Outcome) (count : ℕ → ℕ) (n : �
   unfolding fixBytesAt fixAtRecord
   fix-words = sections-rows (fixWords base) (fixAtRecord o) (fixBytesAt base o) (λ i k. fix-row base (o i k)) count n
 
-  pub length-fixes : length (fixTable base o count n) ≡ 24 * length (fixList o count n)
+  pub length-fixes : length (fixTable base o count n) ≡ FIXUP-BYTES * length (fixList o count n)
   length-fixes =
       rw fix-words (length-words (fixRows base (fixList o count n)) ∙ (let l = length-rows (fixWords base) 3 (length-fix base) (fixList o count n) in omega arith))
 
   -- the bytes that survey's count asks for
-  pub fixes-fill : length (fixTable base o count n) ≡ 24 * howMany isFixup o count n
-  fixes-fill = length-fixes ∙ ap (λ (m : ℕ). 24 * m) (fixups-counted o count n)
+  pub fixes-fill : length (fixTable base o count n) ≡ FIXUP-BYTES * howMany isFixup o count n
+  fixes-fill = length-fixes ∙ ap (λ (m : ℕ). FIXUP-BYTES * m) (fixups-counted o count n)
 
-  module _ (k : ℕ) (b : List ℕ) (d : Fix) (f : 24 * length (fixList o count n) ≤ length b) (h : k < length (fixList o count n)) where
+  module _ (k : ℕ) (b : List ℕ) (d : Fix) (f : FIXUP-BYTES * length (fixList o count n) ≤ length b) (h : k < length (fixList o count n)) where
     pub fix-back : (w : ℕ) → w < 3
-        → get 8 (splice b 0 (fixTable base o count n)) (24 * k + 8 * w) ≡ getD (fixWords base (getD (fixList o count n) k d)) w 0 % 2 ^ 64
+        → get 8 (splice b 0 (fixTable base o count n)) (FIXUP-BYTES * k + 8 * w) ≡ getD (fixWords base (getD (fixList o count n) k d)) w 0 % 2 ^ 64
     fix-back w q =
-        let e : 24 * k + 8 * w ≡ 8 * (3 * k + w) = omega arith in
+        let e : FIXUP-BYTES * k + 8 * w ≡ 8 * (3 * k + w) = omega arith in
         rw (fix-words, e) (row-back (fixWords base) 3 (length-fix base) (fixList o count n) b k w d (omega arith) h q)
 
     -- the three words of fixup k
-    pub fix-place : get 8 (splice b 0 (fixTable base o count n)) (24 * k) ≡ (base + getD (fixList o count n) k d .place) % 2 ^ 64
+    pub fix-place : get 8 (splice b 0 (fixTable base o count n)) (FIXUP-BYTES * k) ≡ (base + getD (fixList o count n) k d .place .0) % 2 ^ 64
     unfolding fixWords
-    fix-place = rw add-zero at (fix-back 0 (omega arith)) ∙ mod-mod _ (2 ^ 64)
+    fix-place = rw add-zero at (fix-back 0 (omega arith))
 
-    pub fix-bits : get 8 (splice b 0 (fixTable base o count n)) (24 * k + 8) ≡ getD (fixList o count n) k d .bits % 2 ^ 64
+    pub fix-bits : get 8 (splice b 0 (fixTable base o count n)) (FIXUP-BYTES * k + 8) ≡ getD (fixList o count n) k d .bits % 2 ^ 64
     unfolding fixWords
     fix-bits = fix-back 1 (omega arith)
 
-    pub fix-value : get 8 (splice b 0 (fixTable base o count n)) (24 * k + 16) ≡ valueOf base (getD (fixList o count n) k d)
+    pub fix-value : get 8 (splice b 0 (fixTable base o count n)) (FIXUP-BYTES * k + 16) ≡ valueOf base (getD (fixList o count n) k d)
     unfolding fixWords
     fix-value = fix-back 2 (omega arith) ∙ value-fits base (getD (fixList o count n) k d)
 
@@ -97,7 +98,7 @@ skip-row : (i k : ℕ) (x : Outcome) → skipBytes i k x ≡ wordBytes (rowWords
 unfolding rowWords wordBytes skipRow skipWords
 skip-row i k Passed = refl
 skip-row i k (Skipped s) = refl
-skip-row i k TurnedDown = refl
+skip-row i k Refused = refl
 skip-row i k (Fixup x) = refl
 
 number-fits : (s : Skip) → skipNumber s % 2 ^ 64 ≡ skipNumber s
@@ -111,28 +112,28 @@ module _ (o : ℕ → ℕ → Outcome) (count : ℕ → ℕ) (n : ℕ) where
   unfolding skipBytesAt skipAtRecord
   skip-words = sections-rows skipRow (skipAtRecord o) (skipBytesAt o) (λ i k. skip-row i k (o i k)) count n
 
-  pub length-skips : length (skipTable o count n) ≡ 24 * length (skipList o count n)
+  pub length-skips : length (skipTable o count n) ≡ SKIP-BYTES * length (skipList o count n)
   length-skips =
       rw skip-words (length-words (rowWords skipRow (skipList o count n)) ∙ (let l = length-rows skipRow 3 length-skip (skipList o count n) in omega arith))
 
-  pub skips-fill : length (skipTable o count n) ≡ 24 * howMany isSkipped o count n
-  skips-fill = length-skips ∙ ap (λ (m : ℕ). 24 * m) (skips-counted o count n)
+  pub skips-fill : length (skipTable o count n) ≡ SKIP-BYTES * howMany isSkipped o count n
+  skips-fill = length-skips ∙ ap (λ (m : ℕ). SKIP-BYTES * m) (skips-counted o count n)
 
-  module _ (k : ℕ) (b : List ℕ) (d : SkipAt) (f : 24 * length (skipList o count n) ≤ length b) (h : k < length (skipList o count n)) where
-    pub skip-back : (w : ℕ) → w < 3 → get 8 (splice b 0 (skipTable o count n)) (24 * k + 8 * w) ≡ getD (skipRow (getD (skipList o count n) k d)) w 0 % 2 ^ 64
+  module _ (k : ℕ) (b : List ℕ) (d : SkipAt) (f : SKIP-BYTES * length (skipList o count n) ≤ length b) (h : k < length (skipList o count n)) where
+    pub skip-back : (w : ℕ) → w < 3 → get 8 (splice b 0 (skipTable o count n)) (SKIP-BYTES * k + 8 * w) ≡ getD (skipRow (getD (skipList o count n) k d)) w 0 % 2 ^ 64
     skip-back w q =
-        let e : 24 * k + 8 * w ≡ 8 * (3 * k + w) = omega arith in
+        let e : SKIP-BYTES * k + 8 * w ≡ 8 * (3 * k + w) = omega arith in
         rw (skip-words, e) (row-back skipRow 3 length-skip (skipList o count n) b k w d (omega arith) h q)
 
     -- the three words of skip k
-    pub skip-section : get 8 (splice b 0 (skipTable o count n)) (24 * k) ≡ getD (skipList o count n) k d .section % 2 ^ 64
+    pub skip-section : get 8 (splice b 0 (skipTable o count n)) (SKIP-BYTES * k) ≡ getD (skipList o count n) k d .section % 2 ^ 64
     unfolding skipRow
     skip-section = rw add-zero at (skip-back 0 (omega arith))
 
-    pub skip-index : get 8 (splice b 0 (skipTable o count n)) (24 * k + 8) ≡ getD (skipList o count n) k d .index % 2 ^ 64
+    pub skip-index : get 8 (splice b 0 (skipTable o count n)) (SKIP-BYTES * k + 8) ≡ getD (skipList o count n) k d .index % 2 ^ 64
     unfolding skipRow
     skip-index = skip-back 1 (omega arith)
 
-    pub skip-reason : get 8 (splice b 0 (skipTable o count n)) (24 * k + 16) ≡ skipNumber (getD (skipList o count n) k d .reason)
+    pub skip-reason : get 8 (splice b 0 (skipTable o count n)) (SKIP-BYTES * k + 16) ≡ skipNumber (getD (skipList o count n) k d .reason)
     unfolding skipRow
     skip-reason = skip-back 2 (omega arith) ∙ number-fits (getD (skipList o count n) k d .reason)

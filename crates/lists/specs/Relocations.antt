@@ -3,29 +3,23 @@ use mathlib.Core.Path.{_≡_}
 use mathlib.Core.List.{List, [], _∷_}
 use lib.ListN.{length}
 use Rattle.le.specs.Le.{splice}
-use Rattle.lists.specs.declared.Places.{Places}
-use Prim.Native.Nat.{ℕ, _+_, _*_, _%_, _^_, _≤_}
+use Rattle.lists.specs.declared.Rows.{Rows}
+use Prim.Native.Nat.{ℕ, _+_, _*_, _≤_}
+use Rattle.limits.specs.Limits.{FIXUP-BYTES, SKIP-BYTES}
 use Rattle.targets.specs.declared.Skip.{Skip}
 use Rattle.fixups.specs.declared.Fix.{Fix}
 use Rattle.fixups.specs.declared.Outcome.{Outcome}
-use Rattle.fixups.specs.declared.Outcome.the-variants.{Passed, Skipped, TurnedDown, Fixup}
+use Rattle.fixups.specs.declared.Outcome.the-variants.{Passed, Skipped, Refused, Fixup}
 use Rattle.targets.specs.Target.{skipNumber}
 use Rattle.fixups.specs.Value.{valueOf}
-use Rattle.fixups.specs.Lists.{sectionsTo}
+use Rattle.fixups.specs.Lists.{overSections}
 use Rattle.words.specs.Words.{wordBytes}
 
 -- a record is three words: place, bits, value in two's complement
-abbrev pub FIXUP-BYTES : ℕ
-FIXUP-BYTES = 24
+unfoldable pub fixWords : ℕ → Fix → List ℕ
+fixWords base x = (base + x .place .0) ∷ x .bits ∷ valueOf base x ∷ []
 
 -- three words: section from 1, record from 0, reason 1 to 4
-abbrev pub SKIP-BYTES : ℕ
-SKIP-BYTES = 24
-
--- the address of the place is below 2^64 for every file that is accepted
-unfoldable pub fixWords : ℕ → Fix → List ℕ
-fixWords base x = (base + x .place) % 2 ^ 64 ∷ x .bits ∷ valueOf base x ∷ []
-
 unfoldable pub skipWords : ℕ → ℕ → Skip → List ℕ
 skipWords i k s = (i + 1) ∷ k ∷ skipNumber s ∷ []
 
@@ -33,15 +27,16 @@ skipWords i k s = (i + 1) ∷ k ∷ skipNumber s ∷ []
 abbrev pub fixBytes : ℕ → Outcome → List ℕ
 fixBytes base Passed = []
 fixBytes base (Skipped s) = []
-fixBytes base TurnedDown = []
+fixBytes base Refused = []
 fixBytes base (Fixup x) = wordBytes (fixWords base x)
 
 abbrev pub skipBytes : ℕ → ℕ → Outcome → List ℕ
 skipBytes i k Passed = []
 skipBytes i k (Skipped s) = wordBytes (skipWords i k s)
-skipBytes i k TurnedDown = []
+skipBytes i k Refused = []
 skipBytes i k (Fixup x) = []
 
+-- of record k of section i
 unfoldable pub fixBytesAt : ℕ → (ℕ → ℕ → Outcome) → ℕ → ℕ → List ℕ
 fixBytesAt base o i k = fixBytes base (o i k)
 
@@ -50,24 +45,24 @@ skipBytesAt o i k = skipBytes i k (o i k)
 
 -- the tables of the first n sections' relocations
 abbrev pub fixTable : ℕ → (ℕ → ℕ → Outcome) → (ℕ → ℕ) → ℕ → List ℕ
-fixTable base o count n = sectionsTo (fixBytesAt base o) count n
+fixTable base o count n = overSections (fixBytesAt base o) count n
 
 abbrev pub skipTable : (ℕ → ℕ → Outcome) → (ℕ → ℕ) → ℕ → List ℕ
-skipTable o count n = sectionsTo (skipBytesAt o) count n
+skipTable o count n = overSections (skipBytesAt o) count n
 
 -- ---- what the parts of the pass promise: F and S written behind p's records, and counted
-pub record Written (p : Places) (F S b b′ c c′ : List ℕ) (q : Places) : Type 0 where
+pub record Written (p : Rows) (F S b b′ c c′ : List ℕ) (q : Rows) : Type 0 where
   pub fixes : b′ ≡ splice b (FIXUP-BYTES * p .fixups) F
   pub skips : c′ ≡ splice c (SKIP-BYTES * p .skips) S
   pub fixCount : FIXUP-BYTES * q .fixups ≡ FIXUP-BYTES * p .fixups + length F
   pub skipCount : SKIP-BYTES * q .skips ≡ SKIP-BYTES * p .skips + length S
 
 -- no more than n records more
-pub record Near (p q : Places) (n : ℕ) : Type 0 where
+pub record Near (p q : Rows) (n : ℕ) : Type 0 where
   pub fixes : q .fixups ≤ p .fixups + n
   pub skips : q .skips ≤ p .skips + n
 
-pub record Step (p : Places) (F S b b′ c c′ : List ℕ) (q : Places) (n : ℕ) : Type 0 where
+pub record Step (p : Rows) (F S b b′ c c′ : List ℕ) (q : Rows) (n : ℕ) : Type 0 where
   pub written : Written p F S b b′ c c′ q
   pub near : Near p q n
 

@@ -1,5 +1,6 @@
 // The tables of fixups and of skips that load writes, as bytes: one pass over all relocations.
 use arch::Arch;
+use arch::VA;
 use fixups::Fix;
 use fixups::Outcome;
 use object::Header;
@@ -8,10 +9,13 @@ ghost use mathlib.Core.Path.{_≡_};
 ghost use Prim.Native.Nat.{_*_, _^_, _<_, _≤_};
 ghost use Rattle.object.specs.Section.{relocationCount};
 ghost use Rattle.le.specs.Le.{splice};
+ghost use Rattle.limits.specs.Limits.{FIXUP-BYTES, SKIP-BYTES};
+ghost use Rattle.object.specs.Symbol.{isOwn};
+ghost use Rattle.homes.specs.Home.{homeIn};
 ghost use Rattle.externs.specs.Bisect.{bisect};
 ghost use Rattle.targets.specs.Target.{skipNumber};
 ghost use Rattle.fixups.specs.Outcome.{outcome};
-ghost use Rattle.fixups.specs.Lists.{recordsTo};
+ghost use Rattle.fixups.specs.Lists.{overRecords};
 ghost use Rattle.words.specs.Words.{wordBytes};
 ghost use Rattle.lists.specs.Relocations.{
   fixWords,
@@ -27,7 +31,7 @@ ghost use Rattle.lists.specs.Relocations.{
 };
 
 // How many records there are of fixups and of skips.
-struct Places {
+struct Rows {
     fixups: u64,
     skips: u64,
 }
@@ -44,50 +48,50 @@ fn skip_number(s: Skip) -> u64
 }
 
 // A fixup's record, at place n of the table.
-fn put_fix(base: u32, x: Fix, n: u64, b: &mut [u8])
+fn put_fix(base: VA, x: Fix, n: u64, b: &mut [u8])
     requires { ⌜ n < 2 ^ 50 ⌝ }
-    ensures { λ _. ⌜ now (b .exit) ≡ splice (now (b .entry)) (24 * n) (wordBytes (fixWords base x)) ⌝ }
+    ensures { λ _. ⌜ now (b .exit) ≡ splice (now (b .entry)) (FIXUP-BYTES * n) (wordBytes (fixWords (base .0) x)) ⌝ }
 {
-    let place = std::num::wrapping_add_u64(base as u64, x.place);
+    let place = std::num::wrapping_add_u64(base.0, x.place.0);
     let bits = x.bits;
-    let ws = [place, bits, fixups::value(base as u64, x)];
-    words::put(b, (24 * n) as usize, &ws);
+    let ws = [place, bits, fixups::value(base, x)];
+    words::put(b, limits::FIXUP_BYTES * (n as usize), &ws);
 }
 
 fn put_skip(i: u32, k: u32, s: Skip, n: u64, b: &mut [u8])
     requires { ⌜ n < 2 ^ 50 ⌝ }
-    ensures { λ _. ⌜ now (b .exit) ≡ splice (now (b .entry)) (24 * n) (wordBytes (skipWords i k s)) ⌝ }
+    ensures { λ _. ⌜ now (b .exit) ≡ splice (now (b .entry)) (SKIP-BYTES * n) (wordBytes (skipWords i k s)) ⌝ }
 {
     let ws = [i as u64 + 1, k as u64, skip_number(s)];
-    words::put(b, (24 * n) as usize, &ws);
+    words::put(b, limits::SKIP_BYTES * (n as usize), &ws);
 }
 
 // What record k of section i came to goes behind p's records.
 fn put_outcome(
-    base: u32,
+    base: VA,
     i: u32,
     k: u32,
     o: Outcome,
-    p: Places,
+    p: Rows,
     fixups: &mut [u8],
     skips: &mut [u8],
-) -> Places
+) -> Rows
     requires { ⌜ (p .fixups < 2 ^ 50) × (p .skips < 2 ^ 50) ⌝ }
-    ensures { λ r. ⌜ Step p (fixBytes base o) (skipBytes i k o) (now (fixups .entry)) (now (fixups .exit)) (now (skips .entry)) (now (skips .exit)) r 1 ⌝ }
+    ensures { λ r. ⌜ Step p (fixBytes (base .0) o) (skipBytes i k o) (now (fixups .entry)) (now (fixups .exit)) (now (skips .entry)) (now (skips .exit)) r 1 ⌝ }
 {
     match o {
         Outcome::Passed => p,
-        Outcome::TurnedDown => p,
+        Outcome::Refused => p,
         Outcome::Skipped(s) => {
             put_skip(i, k, s, p.skips, skips);
-            Places {
+            Rows {
                 fixups: p.fixups,
                 skips: p.skips + 1,
             }
         }
         Outcome::Fixup(x) => {
             put_fix(base, x, p.fixups, fixups);
-            Places {
+            Rows {
                 fixups: p.fixups + 1,
                 skips: p.skips,
             }
@@ -100,28 +104,28 @@ fn write_section(
     arch: Arch,
     f: &[u8],
     h: Header,
-    map: &[u8],
+    own: &[u8],
     homes: &[u32],
     undef: u32,
-    set: &[u32],
-    base: u32,
+    slots: &[u32],
+    base: VA,
     i: u32,
-    p: Places,
+    p: Rows,
     fixups: &mut [u8],
     skips: &mut [u8],
-) -> Places
+) -> Rows
     requires { ⌜ (i < 2 ^ 16) × (p .fixups ≤ 2 ^ 32 * i) × (p .skips ≤ 2 ^ 32 * i) ⌝ }
     ensures { λ r.
         ⌜ Step p
-        (recordsTo (fixBytesAt base (outcome arch (now (f .entry)) h (now (map .entry)) (now (homes .entry)) undef (bisect (now (f .entry)) h (now (set .entry))))) i (relocationCount (now (f .entry)) h i))
-        (recordsTo (skipBytesAt (outcome arch (now (f .entry)) h (now (map .entry)) (now (homes .entry)) undef (bisect (now (f .entry)) h (now (set .entry))))) i (relocationCount (now (f .entry)) h i))
+        (overRecords (fixBytesAt (base .0) (outcome arch (now (f .entry)) h (isOwn (now (own .entry))) (homeIn (now (homes .entry))) undef (bisect (now (f .entry)) h (now (slots .entry))))) i (relocationCount (now (f .entry)) h i))
+        (overRecords (skipBytesAt (outcome arch (now (f .entry)) h (isOwn (now (own .entry))) (homeIn (now (homes .entry))) undef (bisect (now (f .entry)) h (now (slots .entry))))) i (relocationCount (now (f .entry)) h i))
         (now (fixups .entry)) (now (fixups .exit)) (now (skips .entry)) (now (skips .exit)) r (2 ^ 32) ⌝ }
 {
     let m = object::relocation_count(f, h, i);
     let mut q = p;
     let mut k: u32 = 0;
     while k < m {
-        let o = fixups::outcome_of(arch, f, h, map, homes, undef, set, i, k);
+        let o = fixups::outcome_of(arch, f, h, own, homes, undef, slots, i, k);
         q = put_outcome(base, i, k, o, q, fixups, skips);
         k += 1;
     }
@@ -133,22 +137,22 @@ pub fn write_relocations(
     arch: Arch,
     f: &[u8],
     h: Header,
-    map: &[u8],
+    own: &[u8],
     homes: &[u32],
     undef: u32,
-    set: &[u32],
-    base: u32,
+    slots: &[u32],
+    base: VA,
     fixups: &mut [u8],
     skips: &mut [u8],
 )
     ensures { λ _.
         ⌜ BothWritten
-        (fixTable base (outcome arch (now (f .entry)) h (now (map .entry)) (now (homes .entry)) undef (bisect (now (f .entry)) h (now (set .entry)))) (relocationCount (now (f .entry)) h) (h .sections))
-        (skipTable (outcome arch (now (f .entry)) h (now (map .entry)) (now (homes .entry)) undef (bisect (now (f .entry)) h (now (set .entry)))) (relocationCount (now (f .entry)) h) (h .sections))
+        (fixTable (base .0) (outcome arch (now (f .entry)) h (isOwn (now (own .entry))) (homeIn (now (homes .entry))) undef (bisect (now (f .entry)) h (now (slots .entry)))) (relocationCount (now (f .entry)) h) (h .sections))
+        (skipTable (outcome arch (now (f .entry)) h (isOwn (now (own .entry))) (homeIn (now (homes .entry))) undef (bisect (now (f .entry)) h (now (slots .entry)))) (relocationCount (now (f .entry)) h) (h .sections))
         (now (fixups .entry)) (now (fixups .exit)) (now (skips .entry)) (now (skips .exit)) ⌝ }
 {
     let n = h.sections as u32;
-    let mut q = Places {
+    let mut q = Rows {
         fixups: 0,
         skips: 0,
     };
@@ -158,10 +162,10 @@ pub fn write_relocations(
             arch,
             f,
             h,
-            map,
+            own,
             homes,
             undef,
-            set,
+            slots,
             base,
             i,
             q,

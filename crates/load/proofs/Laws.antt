@@ -1,61 +1,67 @@
 -- The ways through the code. Assumes nothing.
-use mathlib.Core.Path.{_≡_, refl, sym, ap, _∙_}
-use mathlib.Core.Bool.{Bool, true, false}
+use Rattle.load.specs.declared.Plan.{Plan}
+use Rattle.load.specs.declared.Plan.the-variants as plan
+use Rattle.load.specs.declared.Plan.the-variants.{Ready}
+use Rattle.layout.specs.LayoutLaws.{undef-fits}
+use Rattle.arch.specs.Machine.{archOf, archBy}
+use Rattle.arch.specs.Address.{rva}
+use Rattle.util.specs.Prefix.{length-list}
+use lib.Seq.{take-append-seam}
+use mathlib.Core.Path.{_≡_, refl, sym, ap, _∙_, subst, fun-ext}
+use mathlib.Core.Bool.{Bool, true, false, _&&_, not}
 use mathlib.Core.List.{List, [], _∷_, _++_}
-use Prim.Native.Nat.{ℕ, zero, suc, _+_, _*_, _/_, _%_, _≤_, _<_}
+use Prim.Native.Nat.{ℕ, zero, suc, _+_, _-_, _*_, _/_, _≤_, _<_, _%_, _^_}
 use native.Mathlib.Omega.{arith}
-use native.Mathlib.Nat.{mul-comm, suc-mul, mul-le-mul-left, div-mul-le-self, lt-div-mul-add}
+use native.Mathlib.Nat.{mul-comm, suc-mul, mul-le-mul-left, div-mul-le-self, lt-div-mul-add, zero-add}
 use mathlib.Core.Logic.{⊎-elim}
 use lib.Dec.{eqb, leb}
-use lib.ListN.{length}
-use borrow.Author.Tests.{le-leb, lt-leb, leb-true, ne-eqb}
-use Rattle.util.specs.Pick.{pick, le-or-lt, leb-same, and-right}
+use lib.ListN.{length, replicate, length-take, getD, length-replicate, List·getD-eq-default}
+use borrow.Author.Tests.{le-leb, lt-leb, ne-eqb, leb-true, not-true, not-false}
+use Rattle.util.specs.Pick.{pick, le-or-lt, leb-same}
 use Rattle.survey.specs.declared.answer.Counts.{Counts}
-use Rattle.image.specs.MarkWords.{markCount}
 use Rattle.load.specs.declared.Lengths.{Lengths}
-use mathlib.Core.Path.{subst, fun-ext}
-use lib.ListN.{replicate, length-take}
-use Rattle.le.specs.Le.{splice, part, part-front, filled}
+use Rattle.le.specs.Le.{splice, part, part-front, filled, splice-in, splice-above}
 use Rattle.object.specs.declared.Header.{Header}
-use Rattle.layout.specs.Layout.{startsTo}
-use Rattle.layout.specs.Home.{recordsTo}
+use Rattle.layout.specs.Layout.{startsTo, mappedPages, undefStart}
+use Rattle.homes.specs.Home.{homeRecords, homesTo, homeIn, sectionHome, homeWord, homeStart, homeOf}
+use Rattle.homes.specs.HomeLaws.{homes-kept}
 use Rattle.tables.specs.Sections.{sectionTable}
 use Rattle.symbol_table.specs.Symbols.{symbolTable}
 use Rattle.tables.specs.Externs.{externTable}
 use Rattle.image.specs.Laid.{laid}
-use Rattle.image.specs.MarkWords.{markBytes}
-use Rattle.load.specs.Load.{Storage, lengthsOf, layoutRoom, listsRoom, roomFor, roomOk, storedBy, stored, LoadIs, Loads}
+use Rattle.marks.specs.Marks.{WORD-BYTES, WORD-PAGES, wordsFor, markBytes}
+use Rattle.load.specs.Load.{Storage, lengthsOf, layoutRoom, listsRoom, roomFor, storedBy, stored, loadChecks, loadAnswer, LoadIs, Loads}
+use Rattle.limits.specs.Limits.{MAX-SECTIONS, MAX-SYMBOLS, MAX-PAGES, MAX-EXTERNS, SECTION-BYTES, SYMBOL-BYTES, EXTERN-BYTES, FIXUP-BYTES, SKIP-BYTES, EXTERN-ROOM}
+use Rattle.arch.specs.Page.{PAGE-SIZE}
 use Rattle.arch.specs.declared.Arch.{Arch}
+use Rattle.arch.specs.declared.RVA.{RVA}
+use Rattle.arch.specs.declared.Offset.{Offset}
 use Rattle.object.specs.Section.{relocationCount}
 use Rattle.externs.specs.Bisect.{bisect}
 use Rattle.fixups.specs.Outcome.{outcome}
 use Rattle.lists.specs.Relocations.{fixTable, skipTable, BothWritten}
-use Rattle.refusal.specs.Refusal.{PAGES, EXTERNS, PLACE, BASE, STORAGE}
-use Rattle.layout.specs.Layout.{mappedPages}
+use Rattle.refusal.specs.Refusal.{PAGES, EXTERNS, TARGET, PLACE, BASE, STORAGE}
 use Rattle.survey.specs.declared.answer.Survey.{Survey}
-use Rattle.survey.specs.declared.answer.Survey.the-variants.{Accepted, Refused}
-use Rattle.survey.specs.Survey.{Check, check, firstFailed, recordChecks, externChecks, targetChecks, checks, counts, tally, tallyBy, countsBy, ownMap, homes, answerBy}
+use Rattle.survey.specs.declared.answer.Survey.the-variants as survey
+use Rattle.survey.specs.declared.answer.Survey.the-variants.{Accepted}
+use Rattle.load.specs.declared.answer.Load.{Load}
+use Rattle.load.specs.declared.answer.Load.the-variants.{Loaded, Refused}
+use Rattle.survey.specs.Survey.{Check, check, firstFailed, recordChecks, externChecks, targetChecks, checks, counts, tally, tallyBy, countsBy, answerBy}
 use Rattle.survey.specs.Surveying.{Fits, plannedBy}
-use Rattle.survey.specs.SurveyLaws.{check-holds, checks-hold, failed-first, Ordered, ordered, records-rest, says-refused, tells-accepted, tells-refused}
+use Rattle.survey.specs.SurveyLaws.{check-holds, checks-hold, failed-first, Ordered, ordered, records-rest, tells-accepted, tells-refused, fits-is}
+use Rattle.load.specs.LoadLaws.{load-says-refused}
 use Rattle.checks.specs.Checks.{pagesOk, baseOk}
 use Rattle.object.specs.Format.{headerOf}
-use Rattle.object.specs.Symbol.{primaries}
-use Rattle.layout.specs.Home.{homesTo}
+use Rattle.object.specs.Symbol.{primaries, isOwn, isSymbol, primary}
+use Rattle.object.specs.SymbolLaws.{own-kept}
 use Rattle.externs.specs.declared.Names.{Names}
 use Rattle.externs.specs.declared.Names.the-variants.{TooMany, Count}
-use Rattle.externs.specs.Externs.{externs, externsBy, Holds}
-use Rattle.externs.specs.ExternLaws.{over-length, count-room, count-list}
+use Rattle.externs.specs.Externs.{externs, externsBy, namesOf, slotWords, Holds}
+use Rattle.externs.specs.ExternLaws.{kept-holds, over-length, count-room, count-list}
 use Rattle.externs.specs.Slot.{slotOf}
 use Rattle.externs.specs.BisectLaws.{bisect-externs}
 use Rattle.fixups.specs.declared.Tally.{Tally}
-use Rattle.load.specs.Loading.{LayoutIs, NamesAre, Limits, Planned, storage, roomCode, plannedCounts, plannedCode, LoadsWith, LoadsAt}
-
--- a base that is allowed fits 32 bits
-low : (base : ℕ) → baseOk base ≡ true → base % 4294967296 ≡ base
-unfolding baseOk
-low base e =
-    let k : base ≤ 2130706432 = leb-true base 2130706432 (and-right (eqb (base % 4096) 0) (leb base 2130706432) e) in
-    omega arith
+use Rattle.load.specs.Loading.{LayoutIs, NamesAre, Limits, storage, roomCheck, planBy, withRoom, plannedCounts, PlannedBy, Blank, planChecks, Found, Plans}
 
 -- ---- 13
 -- a count fits the whole records of a length where its bytes fit the length
@@ -77,226 +83,291 @@ by-size s n len h =
     (le-or-lt n (len / s)))
 
 module _ (c : Counts) (l : Lengths) where
-  pub layout-image : leb (c .pages) (l .image / 4096) ≡ false → false ≡ layoutRoom c l
+  pub layout-is : (r x : Bool) (m : ℕ) → r ≡ (leb (c .pages) (l .image / PAGE-SIZE) && x) → x ≡ (leb m (l .marks / WORD-BYTES) && leb (c .sections) (l .sections / SECTION-BYTES)) → m ≡ wordsFor (c .pages)
+      → r ≡ layoutRoom c l
   unfolding layoutRoom
-  layout-image e = rw (← by-size 4096 (c .pages) (l .image) (omega arith), e)
+  layout-is r x m e d q =
+      rw (← by-size PAGE-SIZE (c .pages) (l .image) (omega arith), ← by-size WORD-BYTES (wordsFor (c .pages)) (l .marks) (omega arith), ← by-size SECTION-BYTES (c .sections) (l .sections) (omega arith), ← q, ← d) e
 
-  pub layout-marks : leb (c .pages) (l .image / 4096) ≡ true → leb ((c .pages + 63) / 64) (l .marks / 8) ≡ false → false ≡ layoutRoom c l
-  unfolding layoutRoom
-  layout-marks e d = rw (← by-size 4096 (c .pages) (l .image) (omega arith), e, ← by-size 8 ((c .pages + 63) / 64) (l .marks) (omega arith), d)
-
-  pub layout-sections : leb (c .pages) (l .image / 4096) ≡ true → leb ((c .pages + 63) / 64) (l .marks / 8) ≡ true → leb (c .sections) (l .sections / 64) ≡ layoutRoom c l
-  unfolding layoutRoom
-  layout-sections e d = rw (← by-size 4096 (c .pages) (l .image) (omega arith), e, ← by-size 8 ((c .pages + 63) / 64) (l .marks) (omega arith), d, ← by-size 64 (c .sections) (l .sections) (omega arith))
-
-  pub lists-symbols : leb (c .symbols) (l .symbols / 48) ≡ false → false ≡ listsRoom c l
+  pub lists-are : (r x y : Bool) → r ≡ (leb (c .symbols) (l .symbols / SYMBOL-BYTES) && x) → x ≡ (leb (c .externs) (l .externs / EXTERN-BYTES) && y)
+      → y ≡ (leb (c .fixups) (l .fixups / FIXUP-BYTES) && leb (c .skips) (l .skips / SKIP-BYTES)) → r ≡ listsRoom c l
   unfolding listsRoom
-  lists-symbols e = rw (← by-size 48 (c .symbols) (l .symbols) (omega arith), e)
+  lists-are r x y e d w =
+      rw (← by-size SYMBOL-BYTES (c .symbols) (l .symbols) (omega arith), ← by-size EXTERN-BYTES (c .externs) (l .externs) (omega arith), ← by-size FIXUP-BYTES (c .fixups) (l .fixups) (omega arith), ← by-size SKIP-BYTES (c .skips) (l .skips) (omega arith), ← w, ← d) e
 
-  pub lists-externs : leb (c .symbols) (l .symbols / 48) ≡ true → leb (c .externs) (l .externs / 32) ≡ false → false ≡ listsRoom c l
-  unfolding listsRoom
-  lists-externs e d = rw (← by-size 48 (c .symbols) (l .symbols) (omega arith), e, ← by-size 32 (c .externs) (l .externs) (omega arith), d)
+  pub room-is : (r x y : Bool) → r ≡ (x && y) → x ≡ layoutRoom c l → y ≡ listsRoom c l → r ≡ roomFor c l
+  room-is r x y e d w = rw (← d, ← w) e
 
-  pub lists-fixups : leb (c .symbols) (l .symbols / 48) ≡ true → leb (c .externs) (l .externs / 32) ≡ true → leb (c .fixups) (l .fixups / 24) ≡ false → false ≡ listsRoom c l
-  unfolding listsRoom
-  lists-fixups e d w = rw (← by-size 48 (c .symbols) (l .symbols) (omega arith), e, ← by-size 32 (c .externs) (l .externs) (omega arith), d, ← by-size 24 (c .fixups) (l .fixups) (omega arith), w)
-
-  pub lists-skips : leb (c .symbols) (l .symbols / 48) ≡ true → leb (c .externs) (l .externs / 32) ≡ true → leb (c .fixups) (l .fixups / 24) ≡ true → leb (c .skips) (l .skips / 24) ≡ listsRoom c l
-  unfolding listsRoom
-  lists-skips e d w = rw (← by-size 48 (c .symbols) (l .symbols) (omega arith), e, ← by-size 32 (c .externs) (l .externs) (omega arith), d, ← by-size 24 (c .fixups) (l .fixups) (omega arith), w, ← by-size 24 (c .skips) (l .skips) (omega arith))
-
-  pub room-layout : (b r : Bool) → b ≡ layoutRoom c l → b ≡ true → r ≡ listsRoom c l → r ≡ roomFor c l
-  room-layout b r q e d = rw (← q, e) d
-
-  pub room-none : (b : Bool) → b ≡ layoutRoom c l → b ≡ false → false ≡ roomFor c l
-  room-none b q e = rw (← q, e)
-
-pub ruleset rooms = (layout-image, layout-marks, layout-sections, lists-symbols, lists-externs, lists-fixups, lists-skips, room-layout, room-none)
+pub ruleset rooms = (layout-is, lists-are, room-is)
 
 -- ---- the parts that are written
 module _ (f : List ℕ) (h : Header) (base : ℕ) (starts : List ℕ) (undef pages n : ℕ) (s s′ i i′ m m′ : List ℕ) where
-  pub laid-is : s′ ≡ splice s 0 (sectionTable f h base starts undef) → i′ ≡ laid f h starts pages base undef n i → m′ ≡ splice m 0 (markBytes pages (markCount pages))
+  pub laid-is : s′ ≡ splice s 0 (sectionTable f h base starts undef) → i′ ≡ laid f h starts pages base undef n i → m′ ≡ splice m 0 (markBytes pages (wordsFor pages))
       → LayoutIs f h base starts undef pages n s s′ i i′ m m′
   laid-is x y z = record { sections = x; image = y; marks = z }
 
 module _ (f : List ℕ) (h : Header) (base : ℕ) (undef pages n : ℕ) (s s′ i i′ m m′ a w : List ℕ) where
-  pub layout-is : a ≡ splice (replicate 256 0) 0 (startsTo f h (h .sections)) → h .sections ≤ 256 → w ≡ part a 0 (h .sections) → LayoutIs f h base w undef pages n s s′ i i′ m m′
+  pub starts-are : a ≡ splice (replicate MAX-SECTIONS 0) 0 (startsTo f h (h .sections)) → h .sections ≤ MAX-SECTIONS → w ≡ part a 0 (h .sections) → LayoutIs f h base w undef pages n s s′ i i′ m m′
       → LayoutIs f h base (startsTo f h (h .sections)) undef pages n s s′ i i′ m m′
-  layout-is e k q x =
-      let g : w ≡ startsTo f h (h .sections) = filled _ a w 256 (h .sections) e k q in
+  starts-are e k q x =
+      let g : w ≡ startsTo f h (h .sections) = filled _ a w MAX-SECTIONS (h .sections) e k q in
       subst (λ (l : List ℕ). LayoutIs f h base l undef pages n s s′ i i′ m m′) g x
 
-module _ (f : List ℕ) (h : Header) (base : ℕ) (map homes records : List ℕ) (undef n : ℕ) (set y y′ e e′ : List ℕ) where
-  pub listed-is : y′ ≡ splice y 0 (symbolTable f h base map homes records) → e′ ≡ splice e 0 (externTable f h base undef set n) → NamesAre f h base map homes records undef n set y y′ e e′
+module _ (f : List ℕ) (h : Header) (base : ℕ) (own : ℕ → Bool) (home : ℕ → Offset) (records : List ℕ) (undef n : ℕ) (slots y y′ e e′ : List ℕ) where
+  pub listed-is : y′ ≡ splice y 0 (symbolTable f h base own home records) → e′ ≡ splice e 0 (externTable f h base undef slots n) → NamesAre f h base own home records undef n slots y y′ e e′
   listed-is p q = record { symbols = p; externs = q }
 
-module _ (f : List ℕ) (h : Header) (base : ℕ) (map homes : List ℕ) (undef n : ℕ) (set y y′ e e′ a w : List ℕ) where
-  pub names-are : a ≡ splice (replicate 256 0) 0 (recordsTo f h (h .sections)) → h .sections ≤ 256 → w ≡ part a 0 (h .sections) → NamesAre f h base map homes w undef n set y y′ e e′
-      → NamesAre f h base map homes (recordsTo f h (h .sections)) undef n set y y′ e e′
+module _ (f : List ℕ) (h : Header) (base : ℕ) (own : ℕ → Bool) (home : ℕ → Offset) (undef n : ℕ) (slots y y′ e e′ a w : List ℕ) where
+  pub names-are : a ≡ splice (replicate MAX-SECTIONS 0) 0 (homeRecords f h (h .sections)) → h .sections ≤ MAX-SECTIONS → w ≡ part a 0 (h .sections) → NamesAre f h base own home w undef n slots y y′ e e′
+      → NamesAre f h base own home (homeRecords f h (h .sections)) undef n slots y y′ e e′
   names-are p k q x =
-      let g : w ≡ recordsTo f h (h .sections) = filled _ a w 256 (h .sections) p k q in
-      subst (λ (l : List ℕ). NamesAre f h base map homes l undef n set y y′ e e′) g x
+      let g : w ≡ homeRecords f h (h .sections) = filled _ a w MAX-SECTIONS (h .sections) p k q in
+      subst (λ (l : List ℕ). NamesAre f h base own home l undef n slots y y′ e e′) g x
 
-pub ruleset parts = (laid-is, layout-is, listed-is, names-are)
+pub ruleset parts = (laid-is, starts-are, listed-is, names-are)
 
-pub few-sections : (f : List ℕ) (h : Header) (set : List ℕ) (a : Arch) (undef pages n : ℕ) → Planned f h set a undef pages n → h .sections ≤ 256
-few-sections f h set a undef pages n p = p .few
-
-pub stored-is : (a : Arch) (f : List ℕ) (h : Header) (base : ℕ) (map homes set : List ℕ) (undef pages n : ℕ) (i i′ m m′ s s′ y y′ e e′ x x′ k k′ : List ℕ) → Planned f h set a undef pages n
-    → LayoutIs f h base (startsTo f h (h .sections)) undef pages n s s′ i i′ m m′ → NamesAre f h base map homes (recordsTo f h (h .sections)) undef n set y y′ e e′
-    → BothWritten (fixTable base (outcome a f h map homes undef (bisect f h set)) (relocationCount f h) (h .sections)) (skipTable (outcome a f h map homes undef (bisect f h set)) (relocationCount f h) (h .sections)) x x′ k k′
-    → storage i′ m′ s′ y′ e′ x′ k′ ≡ storedBy f h base map homes set (bisect f h set) (storage i m s y e x k)
+pub stored-is : (a : Arch) (f : List ℕ) (h : Header) (base : ℕ) (own : ℕ → Bool) (home : ℕ → Offset) (slots : List ℕ) (start : RVA) (undef pages n : ℕ) (i i′ m m′ s s′ y y′ e e′ x x′ k k′ : List ℕ) → Limits f h slots
+    → start ≡ rva (undefStart f h) → undef ≡ undefStart f h % 2 ^ 32 → pages ≡ mappedPages f h % 2 ^ 32 → a ≡ archBy (archOf (h .machine)) → n ≡ length slots
+    → LayoutIs f h base (startsTo f h (h .sections)) (start .0) pages n s s′ i i′ m m′ → NamesAre f h base own home (homeRecords f h (h .sections)) (start .0) n slots y y′ e e′
+    → BothWritten (fixTable base (outcome a f h own home undef (bisect f h slots)) (relocationCount f h) (h .sections)) (skipTable (outcome a f h own home undef (bisect f h slots)) (relocationCount f h) (h .sections)) x x′ k k′
+    → storage i′ m′ s′ y′ e′ x′ k′ ≡ storedBy f h base own home slots (bisect f h slots) (storage i m s y e x k)
 unfolding storedBy
-stored-is a f h base map homes set undef pages n i i′ m m′ s s′ y y′ e e′ x x′ k k′ p l w b =
-    rw (l .image, l .marks, l .sections, w .symbols, w .externs, b .fixes, b .skips, p .machine, p .mapped, p .last, p .names)
+stored-is a f h base own home slots start undef pages n i i′ m m′ s s′ y y′ e e′ x x′ k k′ lim begins last mapped machine names l w b =
+    let fits = undef-fits f h (lim .pages) in
+    let room = lim .pages in
+    let u : undef ≡ undefStart f h = omega arith in
+    let p : pages ≡ mappedPages f h = omega arith in
+    rw (l .image, l .marks, l .sections, w .symbols, w .externs, b .fixes, b .skips, machine, p, begins, u, names)
 
-pub ruleset storing = (few-sections, stored-is)
+-- what the parts of the writing ask
+pub few-sections : (f : List ℕ) (h : Header) (slots : List ℕ) → Limits f h slots → h .sections ≤ MAX-SECTIONS
+few-sections f h slots k = k .sections
 
--- ---- 13
-module _ (c : Counts) (l : Lengths) (new s after : Storage) (b : Bool) (lens : l ≡ lengthsOf s) where
-  pub room-yes : b ≡ roomFor c l → b ≡ true → after ≡ new → LoadIs (roomCode c s) c new s after (Accepted c)
-  unfolding firstFailed answerBy pick
-  room-yes q e d =
-      let z : roomOk c s ≡ true = ap (roomFor c) (sym lens) ∙ sym q ∙ e in
-      record { says = rw z; leaves = rw z d }
+pub few-names : (f : List ℕ) (h : Header) (slots : List ℕ) → Limits f h slots → length slots < 2 ^ 32
+few-names f h slots k = omega (arith, k .names)
 
-  pub room-no : b ≡ roomFor c l → b ≡ false → LoadIs (roomCode c s) c new s s (Refused STORAGE)
-  unfolding firstFailed answerBy pick
-  room-no q e =
-      let z : roomOk c s ≡ false = ap (roomFor c) (sym lens) ∙ sym q ∙ e in
-      record { says = rw z; leaves = rw z }
+pub ruleset storing = (few-sections, few-names)
 
--- ---- a refusal changes nothing; checks that pass hand on
-refused-is : (code n : ℕ) (c : Counts) (new s : Storage) → code ≡ suc n → LoadIs code c new s s (Refused (suc n))
-unfolding pick
-refused-is code n c new s e =
-    let z : eqb (suc n) 0 ≡ false = ne-eqb (suc n) 0 (λ q. absurd (omega arith)) in
-    rw e (record { says = says-refused (suc n) c (λ q. absurd (omega arith)); leaves = rw z })
+-- ---- 13 behind survey's answer
+module _ (s : Survey) (l : Lengths) (n : ℕ) where
+  pub room-refused : (k : ℕ) → s ≡ survey.Refused k → plan.Refused k ≡ withRoom s l n
+  unfolding withRoom
+  room-refused k e = rw e
 
-same-code : (code code′ : ℕ) (c : Counts) (new s after : Storage) (r : Survey) → code ≡ code′ → LoadIs code c new s after r → LoadIs code′ c new s after r
-same-code code code′ c new s after r e x = subst (λ (k : ℕ). LoadIs k c new s after r) e x
+  module _ (c : Counts) (is : s ≡ survey.Accepted c) (b : Bool) (room : b ≡ roomFor c l) where
+    pub room-yes : b ≡ true → Ready c n ≡ withRoom s l n
+    unfolding withRoom pick
+    room-yes e = rw (is, ← room, e)
 
+    pub room-no : b ≡ false → plan.Refused STORAGE ≡ withRoom s l n
+    unfolding withRoom pick
+    room-no e = rw (is, ← room, e)
+
+pub ruleset room-ways = (room-refused, room-yes, room-no)
+
+-- ---- checks that pass hand on
 targets-pass : (t : Tally) → firstFailed (targetChecks t) ≡ 0 → (eqb (t .refused) 0 ≡ true) × (eqb (t .outside) 0 ≡ true)
 targets-pass t e =
-    let a : firstFailed (check (eqb (t .outside) 0) PLACE ∷ []) ≡ 0 = checks-hold (eqb (t .refused) 0) 9 (check (eqb (t .outside) 0) PLACE ∷ []) e in
-    (check-holds (eqb (t .refused) 0) 9 (check (eqb (t .outside) 0) PLACE ∷ []) e, check-holds (eqb (t .outside) 0) 10 [] a)
+    let a : firstFailed (check (eqb (t .outside) 0) PLACE ∷ []) ≡ 0 = checks-hold (eqb (t .refused) 0) (TARGET - 1) (check (eqb (t .outside) 0) PLACE ∷ []) e in
+    (check-holds (eqb (t .refused) 0) (TARGET - 1) (check (eqb (t .outside) 0) PLACE ∷ []) e, check-holds (eqb (t .outside) 0) (PLACE - 1) [] a)
 
 targets-rest : (t : Tally) (cs : List Check) → firstFailed (targetChecks t) ≡ 0 → firstFailed (targetChecks t ++ cs) ≡ firstFailed cs
 unfolding firstFailed pick
 targets-rest t cs e = let p = targets-pass t e in rw (p .0, p .1)
 
-pages-pass : (f : List ℕ) (h : Header) (cs : List Check) → mappedPages f h ≤ 4096 → firstFailed (check (pagesOk f h) PAGES ∷ cs) ≡ firstFailed cs
+pages-pass : (f : List ℕ) (h : Header) (cs : List Check) → mappedPages f h ≤ MAX-PAGES → firstFailed (check (pagesOk f h) PAGES ∷ cs) ≡ firstFailed cs
 unfolding firstFailed pick
-pages-pass f h cs k = rw (le-leb (mappedPages f h) 4096 k)
+pages-pass f h cs k = rw (le-leb (mappedPages f h) MAX-PAGES k)
 
-module _ (f : List ℕ) (h : Header) (map homes set : List ℕ) (v : Survey) (is : v ≡ plannedBy f h map homes set) (lim : Limits f h set) where
-  abbrev late : ℕ
-  late = firstFailed (targetChecks (tallyBy f h map homes (bisect f h set)))
+plan-refused : (k : ℕ) (c : Counts) (n : ℕ) → plan.Refused (suc k) ≡ planBy (suc k) c n
+unfolding planBy pick
+plan-refused k c n = rw (ne-eqb (suc k) 0 (λ z. absurd (omega arith)))
 
-  answered : v ≡ answerBy late (plannedCounts f h map homes set)
-  answered = is ∙ ap (λ (k : ℕ). answerBy k (plannedCounts f h map homes set)) (pages-pass f h (targetChecks (tallyBy f h map homes (bisect f h set))) (lim .pages))
+by-room : (b : Bool) (c : Counts) (n : ℕ) → pick b (Ready c n) (plan.Refused STORAGE) ≡ planBy (pick b 0 STORAGE) c n
+unfolding planBy pick
+by-room true c n = refl
+by-room false c n = refl
 
-  turned : (n : ℕ) (s new : Storage) (k : ℕ) → late ≡ k → k ≡ n → (k ≡ 0 → ⊥) → LoadIs (plannedCode f h map homes set s) (plannedCounts f h map homes set) new s s (Refused n)
-  turned n s new zero e q z = absurd (z refl)
-  turned n s new (suc k) e q z =
-      subst (λ (m : ℕ). LoadIs (plannedCode f h map homes set s) (plannedCounts f h map homes set) new s s (Refused m)) q
-      (refused-is (plannedCode f h map homes set s) k (plannedCounts f h map homes set) new s
-      (failed-first (targetChecks (tallyBy f h map homes (bisect f h set))) (check (roomOk (plannedCounts f h map homes set) s) STORAGE ∷ []) k e))
+by-answer : (t : Tally) (c : Counts) (l : Lengths) (n k : ℕ) → firstFailed (targetChecks t) ≡ k → withRoom (answerBy k c) l n ≡ planBy (firstFailed (targetChecks t ++ roomCheck c l)) c n
+unfolding withRoom answerBy firstFailed pick
+by-answer t c l n zero e = rw (targets-rest t (roomCheck c l) e) (by-room (roomFor c l) c n)
+by-answer t c l n (suc k) e =
+    let z : eqb (suc k) 0 ≡ false = ne-eqb (suc k) 0 (λ z. absurd (omega arith)) in
+    rw (z, failed-first (targetChecks t) (roomCheck c l) k e) (plan-refused k c n)
 
-  pub planned-refused : (n : ℕ) (s new : Storage) → v ≡ Refused n → LoadIs (plannedCode f h map homes set s) (plannedCounts f h map homes set) new s s (Refused n)
-  planned-refused n s new e =
-      let t = tells-refused late (plannedCounts f h map homes set) n (sym answered ∙ e) in
-      turned n s new late refl (t .0) (t .1)
+countOf : Names → ℕ
+countOf (Count n) = n
+countOf TooMany = 0
 
-  pub planned-pages : (c : Counts) → v ≡ Accepted c → c .pages ≤ 4096
-  unfolding countsBy
-  planned-pages c e =
-      let t = tells-accepted late (plannedCounts f h map homes set) c (sym answered ∙ e) in
-      rw (← t .1) (lim .pages)
+-- ---- 9 and what follows
+module _ (f : List ℕ) (h : Header) (own : ℕ → Bool) (home : ℕ → Offset) (l : Lengths) (buf : List ℕ) (r : Names) (says : r ≡ namesOf (externsBy f h own)) (words : buf ≡ slotWords (externsBy f h own)) where
+  holds : Holds (externsBy f h own) buf r
+  holds = kept-holds (externsBy f h own) buf r says words
 
-  pub planned-accepted : (c : Counts) (s new after : Storage) (r : Survey) → v ≡ Accepted c → LoadIs (roomCode c s) c new s after r
-      → LoadIs (plannedCode f h map homes set s) (plannedCounts f h map homes set) new s after r
-  planned-accepted c s new after r e x =
-      let t = tells-accepted late (plannedCounts f h map homes set) c (sym answered ∙ e) in
-      let y : LoadIs (roomCode (plannedCounts f h map homes set) s) (plannedCounts f h map homes set) new s after r
-      = subst (λ (k : Counts). LoadIs (roomCode k s) k new s after r) (sym (t .1)) x in
-      same-code (roomCode (plannedCounts f h map homes set) s) (plannedCode f h map homes set s) (plannedCounts f h map homes set) new s after r
-      (sym (targets-rest (tallyBy f h map homes (bisect f h set)) (check (roomOk (plannedCounts f h map homes set) s) STORAGE ∷ []) (t .0))) y
-
--- ---- 9
-module _ (f : List ℕ) (h : Header) (map buf : List ℕ) (r : Names) (holds : Holds (externsBy f h map) buf r) where
-  pub over-is : (base : ℕ) (homes : List ℕ) (s : Storage) → r ≡ TooMany → LoadsWith f h base map homes s s (Refused EXTERNS)
+  pub plan-over : r ≡ TooMany → PlannedBy f h own home l buf (plan.Refused EXTERNS)
   unfolding firstFailed pick
-  over-is base homes s e =
-      let z : leb (length (externsBy f h map)) 1024 ≡ false = lt-leb (length (externsBy f h map)) 1024 (over-length (externsBy f h map) buf r holds e) in
-      refused-is _ 8 _ _ s (rw z)
+  plan-over e =
+      let z : leb (length (externsBy f h own)) MAX-EXTERNS ≡ false = lt-leb (length (externsBy f h own)) MAX-EXTERNS (over-length (externsBy f h own) buf r holds e) in
+      record { says = rw z (plan-refused (EXTERNS - 1) (plannedCounts f h own home (externsBy f h own)) (length (externsBy f h own))); words = words }
 
-  module _ (n : ℕ) (w : List ℕ) (e : r ≡ Count n) (q : w ≡ part buf 0 n) where
-    names-are-those : w ≡ externsBy f h map
-    names-are-those = q ∙ part-front buf n ∙ count-list (externsBy f h map) buf r holds n e
+  pub plan-few : (n : ℕ) (w : List ℕ) (v : Survey) (x : Plan) → mappedPages f h ≤ MAX-PAGES → r ≡ Count n → w ≡ part buf 0 n → v ≡ plannedBy f h own home w → x ≡ withRoom v l n → PlannedBy f h own home l buf x
+  unfolding firstFailed pick countOf
+  plan-few n w v x room e q d y =
+      let few = count-room (externsBy f h own) buf r holds n e in
+      let list = count-list (externsBy f h own) buf r holds n e in
+      let g : w ≡ externsBy f h own = q ∙ part-front buf n ∙ list in
+      let z : leb (length (externsBy f h own)) MAX-EXTERNS ≡ true = le-leb (length (externsBy f h own)) MAX-EXTERNS (rw (← list, length-take) (omega arith)) in
+      let m : n ≡ length (externsBy f h own) = ap countOf (sym e ∙ (rw z at says)) in
+      let t = tallyBy f h own home (bisect f h (externsBy f h own)) in
+      let c = plannedCounts f h own home (externsBy f h own) in
+      let a : v ≡ answerBy (firstFailed (targetChecks t)) c = rw g at d ∙ ap (λ (k : ℕ). answerBy k c) (pages-pass f h (targetChecks t) room) in
+      record { says = rw z (y ∙ ap (λ (u : Survey). withRoom u l n) a ∙ by-answer t c l n (firstFailed (targetChecks t)) refl ∙ ap (planBy (firstFailed (targetChecks t ++ roomCheck c l)) c) m); words = words }
 
-    short : length w ≤ 1024
-    short = rw (q, part-front buf n, length-take) (let k = count-room (externsBy f h map) buf r holds n e in omega arith)
+pub ruleset naming = (plan-over, plan-few)
 
-    pub limits-are : Fits f h → Limits f h w
-    limits-are k = record { sections = k .sections; pages = k .pages; names = short }
+-- ---- zeros behind a list say nothing
+zero-at : (n i : ℕ) → getD {A = ℕ} (replicate n 0) i 0 ≡ 0
+zero-at zero i = refl
+zero-at (suc n) zero = refl
+zero-at (suc n) (suc i) = zero-at n i
 
-    pub fit-is : (base : ℕ) (homes : List ℕ) (s after : Storage) (x : Survey)
-        → LoadIs (plannedCode f h map homes w s) (plannedCounts f h map homes w) (storedBy f h base map homes w (bisect f h w) s) s after x → LoadsWith f h base map homes s after x
-    unfolding firstFailed pick
-    fit-is base homes s after x l =
-        let m : length (externsBy f h map) ≤ 1024 = subst (λ (z : List ℕ). length z ≤ 1024) names-are-those short in
-        let y : LoadIs (plannedCode f h map homes (externsBy f h map) s) (plannedCounts f h map homes (externsBy f h map)) (storedBy f h base map homes (externsBy f h map) (bisect f h (externsBy f h map)) s) s after x
-        = subst (λ (z : List ℕ). LoadIs (plannedCode f h map homes z s) (plannedCounts f h map homes z) (storedBy f h base map homes z (bisect f h z) s) s after x) names-are-those l in
-        rw (le-leb (length (externsBy f h map)) 1024 m) y
+padded : (xs : List ℕ) (size j : ℕ) → length xs ≤ size → getD (splice (replicate size 0) 0 xs) j 0 ≡ getD xs j 0
+padded xs size j k =
+    let z : length {A = ℕ} (replicate size 0) ≡ size = length-replicate {A = ℕ} size 0 in
+    ⊎-elim
+    (λ p. splice-above (replicate size 0) 0 xs j (omega arith) ∙ zero-at size j ∙ sym (List·getD-eq-default xs 0 p))
+    (λ p. rw zero-add at (splice-in (replicate size 0) 0 xs j p (omega arith)))
+    (le-or-lt (length xs) j)
 
--- ---- the arrays
-module _ (f : List ℕ) (h : Header) (base : ℕ) (s after : Storage) (x : Survey) (m w : List ℕ) where
-  pub homes-are : (map : List ℕ) → m ≡ splice (replicate 256 0) 0 (homesTo f h (h .sections)) → h .sections ≤ 256 → w ≡ part m 0 (h .sections) → LoadsWith f h base map w s after x → LoadsWith f h base map (homes f h) s after x
-  homes-are map e k q l =
-      subst (λ (z : List ℕ). LoadsWith f h base map z s after x) (filled _ m w 256 (h .sections) e k q) l
+module _ (f : List ℕ) (h : Header) (fits : Fits f h) where
+  own-whole : (m : List ℕ) → m ≡ splice (replicate MAX-SYMBOLS 0) 0 (primaries f h (h .symbols)) → isOwn m ≡ isSymbol f h
+  own-whole m e =
+      let l = length-list {A = ℕ} (λ k. pick (primary f h k) 1 0) (h .symbols) in
+      let s = fits .symbols in
+      fun-ext (λ j. rw (e, padded (primaries f h (h .symbols)) MAX-SYMBOLS j (omega arith))) ∙ own-kept f h
 
-  pub map-is : m ≡ splice (replicate 16384 0) 0 (primaries f h (h .symbols)) → h .symbols ≤ 16384 → w ≡ part m 0 (h .symbols) → LoadsWith f h base w (homes f h) s after x → LoadsWith f h base (ownMap f h) (homes f h) s after x
-  map-is e k q l =
-      subst (λ (z : List ℕ). LoadsWith f h base z (homes f h) s after x) (filled _ m w 16384 (h .symbols) e k q) l
+  homes-whole : (m : List ℕ) → m ≡ splice (replicate MAX-SECTIONS 0) 0 (homesTo f h (h .sections)) → homeIn m ≡ sectionHome f h
+  homes-whole m e =
+      let l = length-list {A = ℕ} (λ k. homeWord (homeStart f h (homeOf f h k))) (h .sections) in
+      let s = fits .sections in
+      fun-ext (λ j. rw (e, padded (homesTo f h (h .sections)) MAX-SECTIONS j (omega arith))) ∙ homes-kept f h (fits .pages)
+
+-- ---- from refusal 1 on
+pub pages-room : (f : List ℕ) (h : Header) (code : ℕ) (own homes slots : List ℕ) → Blank f h own homes slots → code ≡ firstFailed (recordChecks f h) → code ≡ 0 → mappedPages f h ≤ MAX-PAGES
+pages-room f h code own homes slots blank is z = (fits-is f h code (blank .header) is z) .pages
+
+module _ (f : List ℕ) (h : Header) (l : Lengths) (code : ℕ) (own₀ homes₀ slots₀ : List ℕ) (blank : Blank f h own₀ homes₀ slots₀) (is : code ≡ firstFailed (recordChecks f h)) where
+  abbrev behind : List Check
+  behind = externChecks (length (externs f h)) ++ (targetChecks (tally f h) ++ roomCheck (counts f h) l)
+
+  no-by : (k : ℕ) → k ≡ firstFailed (recordChecks f h) → (k ≡ 0 → ⊥) → (plan.Refused k ≡ planBy (firstFailed (planChecks f h l)) (counts f h) (length (externs f h))) × (firstFailed (planChecks f h l) ≡ k)
+  no-by zero e z = absurd (z refl)
+  no-by (suc k) e z =
+      let g : firstFailed (planChecks f h l) ≡ suc k = failed-first (recordChecks f h) behind k (sym e) in
+      (rw g (plan-refused k (counts f h) (length (externs f h))), g)
+
+  pub plans-no : (code ≡ 0 → ⊥) → Plans f h l own₀ homes₀ slots₀ (plan.Refused code)
+  plans-no z = let n = no-by code is z in record { says = n .0; found = λ e. absurd (z (sym (n .1) ∙ e)) }
+
+  pub plans-yes : (own homes slots : List ℕ) (x : Plan) → code ≡ 0 → own ≡ splice own₀ 0 (primaries f h (h .symbols)) → homes ≡ splice homes₀ 0 (homesTo f h (h .sections))
+      → PlannedBy f h (isOwn own) (homeIn homes) l slots x → Plans f h l own homes slots x
+  plans-yes own homes slots x z e d p =
+      let o : Ordered f h = ordered f h [] (sym is ∙ z) in
+      let k : Fits f h = fits-is f h code (blank .header) is z in
+      let a : isOwn own ≡ isSymbol f h = own-whole f h k own (rw (blank .no-own) at e) in
+      let b : homeIn homes ≡ sectionHome f h = homes-whole f h k homes (rw (blank .no-homes) at d) in
+      let y : bisect f h (externs f h) ≡ slotOf f h (externs f h) = fun-ext (bisect-externs f h (isSymbol f h)) in
+      let q : PlannedBy f h (isSymbol f h) (sectionHome f h) l slots x = subst (λ (u : ℕ → Offset). PlannedBy f h (isSymbol f h) u l slots x) b (subst (λ (u : ℕ → Bool). PlannedBy f h u (homeIn homes) l slots x) a p) in
+      let g : firstFailed (planChecks f h l) ≡ firstFailed behind = records-rest f h behind o in
+      record {
+        says = rw g (rw y at (q .says));
+        found = λ w.
+            let v : firstFailed behind ≡ 0 = sym g ∙ w in
+            record { symbols = a; starts = b; words = q .words; sections = k .sections; pages = k .pages; names = leb-true (length (externs f h)) MAX-EXTERNS (check-holds _ _ _ v) };
+      }
+
+pub slots-long : (f : List ℕ) (h : Header) (own homes slots : List ℕ) → Blank f h own homes slots → length slots ≡ EXTERN-ROOM
+slots-long f h own homes slots blank = rw (blank .no-slots) (length-replicate {A = ℕ} EXTERN-ROOM 0)
+
+pub ruleset planning = (plans-no, pages-room, plans-yes, slots-long)
 
 -- ---- the whole
-module _ (f : List ℕ) (h : Header) (base code : ℕ) (s : Storage) (head : h ≡ headerOf f) (is : code ≡ firstFailed (recordChecks f h)) where
-  abbrev behind : List Check
-  behind = externChecks (length (externs f h)) ++ (targetChecks (tally f h) ++ (check (roomOk (counts f h) s) STORAGE ∷ []))
+refused-is : (code n : ℕ) (c : Counts) (new s : Storage) → code ≡ suc n → LoadIs code c new s s (Refused (suc n))
+unfolding pick
+refused-is code n c new s e =
+    let z : eqb (suc n) 0 ≡ false = ne-eqb (suc n) 0 (λ q. absurd (omega arith)) in
+    rw e (record { says = load-says-refused (suc n) c (λ q. absurd (omega arith)); leaves = rw z })
 
-  pub at-yes : (after : Storage) (x : Survey) → code ≡ 0 → LoadsWith f h base (ownMap f h) (homes f h) s after x → LoadsAt f base s after x
-  at-yes after x z l =
-      let o : Ordered f h = ordered f h [] (sym is ∙ z) in
-      let b : bisect f h (externs f h) ≡ slotOf f h (externs f h) = fun-ext (bisect-externs f h (ownMap f h)) in
-      let y : LoadIs (firstFailed behind) (counts f h) (stored f h base s) s after x = rw b at l in
-      subst (λ (k : Header). LoadIs (firstFailed (checks f k ++ (check (roomOk (counts f k) s) STORAGE ∷ []))) (counts f k) (stored f k base s) s after x) head
-      (same-code (firstFailed behind) (firstFailed (recordChecks f h ++ behind)) (counts f h) (stored f h base s) s after x (sym (records-rest f h behind o)) y)
+pub base-no : (f : List ℕ) (base : ℕ) (s : Storage) (b : Bool) → b ≡ baseOk base → not b ≡ true → Loads f base s s (Refused BASE)
+unfolding firstFailed pick
+base-no f base s b is e = let o : baseOk base ≡ false = sym is ∙ not-true b e in refused-is _ (BASE - 1) _ _ s (rw o)
 
-  no-by : (k : ℕ) → k ≡ firstFailed (recordChecks f h) → (k ≡ 0 → ⊥) → LoadIs (firstFailed (recordChecks f h ++ behind)) (counts f h) (stored f h base s) s s (Refused k)
-  no-by zero e z = absurd (z refl)
-  no-by (suc k) e z = refused-is (firstFailed (recordChecks f h ++ behind)) k (counts f h) (stored f h base s) s (failed-first (recordChecks f h) behind k (sym e))
+plan-says : (code : ℕ) (c : Counts) (n : ℕ) (a : Counts) (m : ℕ) → Ready a m ≡ planBy code c n → (code ≡ 0) × (a ≡ c) × (m ≡ n)
+unfolding planBy pick
+plan-says zero c n a m e = (refl, cc, cc)
+plan-says (suc k) c n a m e =
+    let t : eqb (suc k) 0 ≡ false = ne-eqb (suc k) 0 (λ z. absurd (omega arith)) in
+    let z : Ready a m ≡ plan.Refused (suc k) = rw t at e in
+    absurd (let w : _≡_ {A = ℕ} 0 1 = cc in omega arith)
 
-  pub at-no : (code ≡ 0 → ⊥) → LoadsAt f base s s (Refused code)
-  at-no z =
-      subst (λ (k : Header). LoadIs (firstFailed (checks f k ++ (check (roomOk (counts f k) s) STORAGE ∷ []))) (counts f k) (stored f k base s) s s (Refused code)) head (no-by code is z)
+plan-says-no : (code : ℕ) (c : Counts) (n k : ℕ) → plan.Refused k ≡ planBy code c n → (code ≡ k) × (code ≡ 0 → ⊥)
+unfolding planBy pick
+plan-says-no zero c n k e = absurd (let w : _≡_ {A = ℕ} 0 1 = cc in omega arith)
+plan-says-no (suc j) c n k e =
+    let t : eqb (suc j) 0 ≡ false = ne-eqb (suc j) 0 (λ z. absurd (omega arith)) in
+    let z : plan.Refused k ≡ plan.Refused (suc j) = rw t at e in
+    (cc, λ q. absurd (omega arith))
 
-module _ (f : List ℕ) (base : ℕ) (s : Storage) (b : Bool) (is : b ≡ baseOk base) where
-  pub base-yes : (after : Storage) (x : Survey) → b ≡ true → LoadsAt f (base % 4294967296) s after x → Loads f base s after x
+-- a plan that is ready
+module _ (f : List ℕ) (h : Header) (own homes slots : List ℕ) (l : Lengths) (p : Plan) (plans : Plans f h l own homes slots p) (c : Counts) (n : ℕ) (is : p ≡ Ready c n) (w : List ℕ) (cut : w ≡ part slots 0 n) where
+  abbrev ready-code : ℕ
+  ready-code = firstFailed (planChecks f h l)
+
+  told : (ready-code ≡ 0) × (c ≡ counts f h) × (n ≡ length (externs f h))
+  told = plan-says ready-code (counts f h) (length (externs f h)) c n (sym is ∙ plans .says)
+
+  found : Found f h own homes slots
+  found = plans .found (told .0)
+
+  externs-are : w ≡ externs f h
+  unfolding slotWords pick
+  externs-are =
+      let m = told .2 in
+      let z : leb (length (externs f h)) MAX-EXTERNS ≡ true = le-leb (length (externs f h)) MAX-EXTERNS (found .names) in
+      let y : slots ≡ externs f h ++ replicate (EXTERN-ROOM - length (externs f h)) 0 = rw z at (found .words) in
+      cut ∙ rw (m, y, part-front) (take-append-seam (externs f h) _)
+
+  pub limits-are : Limits f h w
+  limits-are = rw externs-are (record { sections = found .sections; pages = found .pages; names = found .names })
+
+module _ (f : List ℕ) (base : ℕ) (s : Storage) (b : Bool) (h : Header) (own homes slots : List ℕ) (l : Lengths) (p : Plan) (ok : b ≡ baseOk base) (go : not b ≡ false) (head : h ≡ headerOf f) (lens : l ≡ lengthsOf s)
+    (plans : Plans f h l own homes slots p) where
+  allowed : baseOk base ≡ true
+  allowed = sym ok ∙ not-false b go
+
+  abbrev code : ℕ
+  code = firstFailed (planChecks f h l)
+
+  -- load's code behind 12 is the plan's
+  load-code : firstFailed (loadChecks f (headerOf f) base s) ≡ code
   unfolding firstFailed pick
-  base-yes after x e l =
-      let o : baseOk base ≡ true = sym is ∙ e in
-      let k : base % 4294967296 ≡ base = low base o in
-      rw o (subst (λ (z : ℕ). LoadsAt f z s after x) k l)
+  load-code = rw (allowed, ← head, lens)
 
-  pub base-no : b ≡ false → Loads f base s s (Refused BASE)
-  unfolding firstFailed pick
-  base-no e = let o : baseOk base ≡ false = sym is ∙ e in refused-is _ 11 _ _ s (rw o)
+  no-case : (k n : ℕ) → code ≡ k → k ≡ n → (k ≡ 0 → ⊥) → Loads f base s s (Refused n)
+  no-case zero n e q z = absurd (z refl)
+  no-case (suc k) n e q z = rw (← q) (refused-is (firstFailed (loadChecks f (headerOf f) base s)) k (counts f (headerOf f)) (stored f (headerOf f) base s) s (load-code ∙ e))
 
-pub ruleset planning = (planned-refused, planned-pages, planned-accepted)
+  pub load-no : (n : ℕ) → p ≡ plan.Refused n → Loads f base s s (Refused n)
+  load-no n e =
+      let t = plan-says-no code (counts f h) (length (externs f h)) n (sym e ∙ plans .says) in
+      no-case code n refl (t .0) (t .1)
 
-pub ruleset naming = (over-is, limits-are, fit-is)
-
-pub ruleset whole = (at-yes, at-no)
-
-pub ruleset based = (base-yes, base-no)
+  pub load-yes : (c : Counts) (n : ℕ) → p ≡ Ready c n → (w : List ℕ) → w ≡ part slots 0 n → (after : Storage) → after ≡ storedBy f h base (isOwn own) (homeIn homes) w (bisect f h w) s → Loads f base s after (Loaded c)
+  unfolding loadAnswer pick
+  load-yes c n is w cut after e =
+      let t = told f h own homes slots l p plans c n is w cut in
+      let o = found f h own homes slots l p plans c n is w cut in
+      let y : bisect f h (externs f h) ≡ slotOf f h (externs f h) = fun-ext (bisect-externs f h (isSymbol f h)) in
+      let g : after ≡ stored f h base s = rw (externs-are f h own homes slots l p plans c n is w cut, o .symbols, o .starts, y) at e in
+      let k : firstFailed (loadChecks f (headerOf f) base s) ≡ 0 = load-code ∙ t .0 in
+      record { says = rw (k, ← head) (ap Loaded (t .1)); leaves = rw (k, ← head) g }

@@ -1,8 +1,8 @@
 -- What an accepted load says and leaves: the file is accepted, the base allowed, there was room; each buffer's counted part is its table, and what lies behind it is as it was.
-use mathlib.Core.Path.{_≡_, sym, ap, _∙_}
-use mathlib.Core.Bool.{true, _&&_}
+use mathlib.Core.Path.{_≡_, refl, sym, ap, _∙_}
+use mathlib.Core.Bool.{true, false, _&&_}
 use mathlib.Core.List.{List, [], _∷_, _++_}
-use Prim.Native.Nat.{ℕ, _*_, _≤_}
+use Prim.Native.Nat.{ℕ, zero, suc, _-_, _*_, _≤_}
 use native.Mathlib.Omega.{arith}
 use lib.Dec.{eqb, leb}
 use lib.ListN.{length, getD}
@@ -13,31 +13,54 @@ use Rattle.le.specs.Le.{splice, part, part-splice, splice-above}
 use Rattle.object.specs.declared.Header.{Header}
 use Rattle.object.specs.Format.{headerOf}
 use Rattle.object.specs.Section.{relocationCount}
+use Rattle.object.specs.Symbol.{isSymbol}
 use Rattle.layout.specs.Layout.{undefStart, mappedPages, startsTo, tableRecords}
-use Rattle.layout.specs.Home.{recordsTo}
-use Rattle.checks.specs.Limits.{MAX-PAGES, MAX-EXTERNS}
+use Rattle.homes.specs.Home.{sectionHome, homeRecords}
+use Rattle.limits.specs.Limits.{MAX-PAGES, MAX-EXTERNS, SECTION-BYTES, SYMBOL-BYTES, EXTERN-BYTES, FIXUP-BYTES, SKIP-BYTES}
 use Rattle.externs.specs.Externs.{externs}
 use Rattle.fixups.specs.Tally.{isFixup, isSkipped, howMany, tallyOf}
-use Rattle.refusal.specs.Refusal.{STORAGE}
+use Rattle.refusal.specs.Refusal.{TARGET, PLACE, BASE, STORAGE}
 use Rattle.survey.specs.declared.answer.Counts.{Counts}
-use Rattle.survey.specs.declared.answer.Survey.the-variants.{Accepted, Refused}
-use Rattle.survey.specs.Listed.{listedTotal}
-use Rattle.survey.specs.Survey.{Check, check, firstFailed, externChecks, targetChecks, checks, counts, countsBy, tally, ownMap, homes, outcomes, answerBy, surveyOf}
-use Rattle.survey.specs.SurveyLaws.{check-holds, checks-hold, Ordered, ordered, ordered-rest, records-rest, tells-accepted, tells-refused}
-use Rattle.tables.specs.Sections.{SECTION-BYTES, sectionTable}
-use Rattle.symbol_table.specs.Symbols.{SYMBOL-BYTES, symbolTable}
-use Rattle.tables.specs.Externs.{EXTERN-BYTES, externTable}
-use Rattle.lists.specs.Relocations.{FIXUP-BYTES, SKIP-BYTES, fixTable, skipTable}
+use Rattle.survey.specs.declared.answer.Survey.the-variants.{Accepted}
+use Rattle.load.specs.declared.answer.Load.the-variants.{Loaded, Refused}
+use Rattle.homes.specs.Listed.{listedTotal}
+use Rattle.survey.specs.Survey.{Check, check, firstFailed, externChecks, targetChecks, checks, counts, countsBy, tally, outcomes, answerBy, surveyOf}
+use Rattle.survey.specs.SurveyLaws.{check-holds, checks-hold, Ordered, ordered, ordered-rest, records-rest}
+use Rattle.tables.specs.Sections.{sectionTable}
+use Rattle.symbol_table.specs.Symbols.{symbolTable}
+use Rattle.tables.specs.Externs.{externTable}
+use Rattle.lists.specs.Relocations.{fixTable, skipTable}
 use Rattle.tables.specs.TableLaws.{sections-fill, length-externs}
 use Rattle.symbol_table.specs.SymbolLaws.{symbols-fill}
 use Rattle.lists.specs.RelocationLaws.{fixes-fill, skips-fill}
-use Rattle.image.specs.MarkWords.{markCount, markBytes}
-use Rattle.image.specs.MarkLaws.{length-marks}
+use Rattle.marks.specs.Marks.{WORD-BYTES, wordsFor, markBytes}
+use Rattle.marks.specs.PutLaws.{length-marks}
 use Rattle.image.specs.Laid.{laidImage}
 use Rattle.image.specs.LaidLaws.{laid-past}
 use Rattle.load.specs.declared.Lengths.{Lengths}
 use Rattle.checks.specs.Checks.{baseOk}
-use Rattle.load.specs.Load.{Storage, lengthsOf, layoutRoom, listsRoom, roomOk, storedBy, stored, loadChecks, Loads}
+use Rattle.load.specs.Load.{Storage, lengthsOf, layoutRoom, listsRoom, roomOk, storedBy, stored, loadChecks, loadAnswer, Loads}
+
+-- ---- an answer tells its code
+pub load-says-refused : (code : ℕ) (c : Counts) → (code ≡ 0 → ⊥) → Refused code ≡ loadAnswer code c
+unfolding loadAnswer pick
+load-says-refused code c z = rw (ne-eqb code 0 z)
+
+pub tells-loaded : (code : ℕ) (a c : Counts) → loadAnswer code a ≡ Loaded c → (code ≡ 0) × (a ≡ c)
+unfolding loadAnswer pick
+tells-loaded zero a c e = (refl, cc)
+tells-loaded (suc n) a c e =
+    let t : eqb (suc n) 0 ≡ false = ne-eqb (suc n) 0 (λ z. absurd (omega arith)) in
+    let z : Refused (suc n) ≡ Loaded c = rw t at e in
+    absurd (let w : _≡_ {A = ℕ} 0 1 = cc in omega arith)
+
+pub load-tells-refused : (code : ℕ) (a : Counts) (n : ℕ) → loadAnswer code a ≡ Refused n → (code ≡ n) × (code ≡ 0 → ⊥)
+unfolding loadAnswer pick
+load-tells-refused zero a n e = absurd (let w : _≡_ {A = ℕ} 0 1 = cc in omega arith)
+load-tells-refused (suc k) a n e =
+    let t : eqb (suc k) 0 ≡ false = ne-eqb (suc k) 0 (λ z. absurd (omega arith)) in
+    let z : Refused (suc k) ≡ Refused n = rw t at e in
+    (cc, λ q. absurd (omega arith))
 
 -- ---- what the answer says
 pub record LoadAccepts (f : List ℕ) (base : ℕ) (s s′ : Storage) (c : Counts) : Type 0 where
@@ -49,18 +72,18 @@ pub record LoadAccepts (f : List ℕ) (base : ℕ) (s s′ : Storage) (c : Count
   pub pages : mappedPages f (headerOf f) ≤ MAX-PAGES
   pub leaves : s′ ≡ stored f (headerOf f) base s
 
-module _ (f : List ℕ) (base : ℕ) (s s′ : Storage) (c : Counts) (loads : Loads f base s s′ (Accepted c)) where
+module _ (f : List ℕ) (base : ℕ) (s s′ : Storage) (c : Counts) (loads : Loads f base s s′ (Loaded c)) where
   abbrev h : Header
   h = headerOf f
 
   told : (firstFailed (loadChecks f h base s) ≡ 0) × (counts f h ≡ c)
-  told = tells-accepted (firstFailed (loadChecks f h base s)) (counts f h) c (sym (loads .says))
+  told = tells-loaded (firstFailed (loadChecks f h base s)) (counts f h) c (sym (loads .says))
 
   abbrev late : List Check
   late = targetChecks (tally f h) ++ (check (roomOk (counts f h) s) STORAGE ∷ [])
 
   records : firstFailed (checks f h ++ (check (roomOk (counts f h) s) STORAGE ∷ [])) ≡ 0
-  records = checks-hold (baseOk base) 11 (checks f h ++ (check (roomOk (counts f h) s) STORAGE ∷ [])) (told .0)
+  records = checks-hold (baseOk base) (BASE - 1) (checks f h ++ (check (roomOk (counts f h) s) STORAGE ∷ [])) (told .0)
 
   in-order : Ordered f h
   in-order = ordered f h (externChecks (length (externs f h)) ++ late) records
@@ -78,13 +101,13 @@ module _ (f : List ℕ) (base : ℕ) (s s′ : Storage) (c : Counts) (loads : Lo
   last = check (roomOk (counts f h) s) STORAGE ∷ []
 
   none-refused : eqb (tally f h .refused) 0 ≡ true
-  none-refused = check-holds (eqb (tally f h .refused) 0) 9 (check (eqb (tally f h .outside) 0) 11 ∷ last) targets
+  none-refused = check-holds (eqb (tally f h .refused) 0) (TARGET - 1) (check (eqb (tally f h .outside) 0) PLACE ∷ last) targets
 
-  inside : firstFailed (check (eqb (tally f h .outside) 0) 11 ∷ last) ≡ 0
-  inside = checks-hold (eqb (tally f h .refused) 0) 9 (check (eqb (tally f h .outside) 0) 11 ∷ last) targets
+  inside : firstFailed (check (eqb (tally f h .outside) 0) PLACE ∷ last) ≡ 0
+  inside = checks-hold (eqb (tally f h .refused) 0) (TARGET - 1) (check (eqb (tally f h .outside) 0) PLACE ∷ last) targets
 
   none-outside : eqb (tally f h .outside) 0 ≡ true
-  none-outside = check-holds (eqb (tally f h .outside) 0) 10 last inside
+  none-outside = check-holds (eqb (tally f h .outside) 0) (PLACE - 1) last inside
 
   survey-accepts : surveyOf f ≡ Accepted c
   unfolding answerBy firstFailed pick
@@ -98,8 +121,8 @@ module _ (f : List ℕ) (base : ℕ) (s s′ : Storage) (c : Counts) (loads : Lo
   load-accepts =
       record {
         accepted = survey-accepts;
-        allowed = check-holds (baseOk base) 11 (checks f h ++ (check (roomOk (counts f h) s) STORAGE ∷ [])) (told .0);
-        room = rw (← told .1) (check-holds (roomOk (counts f h) s) 12 [] (checks-hold (eqb (tally f h .outside) 0) 10 last inside));
+        allowed = check-holds (baseOk base) (BASE - 1) (checks f h ++ (check (roomOk (counts f h) s) STORAGE ∷ [])) (told .0);
+        room = rw (← told .1) (check-holds (roomOk (counts f h) s) (STORAGE - 1) [] (checks-hold (eqb (tally f h .outside) 0) (PLACE - 1) last inside));
         counted = told .1;
         names = leb-true (length (externs f h)) MAX-EXTERNS few-names;
         pages = leb-true (mappedPages f h) MAX-PAGES (in-order .pages);
@@ -125,7 +148,7 @@ keeps table size before after e r q =
 -- ---- there was room for each
 pub record Rooms (c : Counts) (l : Lengths) : Type 0 where
   pub image : PAGE-SIZE * c .pages ≤ l .image
-  pub marks : 8 * markCount (c .pages) ≤ l .marks
+  pub marks : WORD-BYTES * wordsFor (c .pages) ≤ l .marks
   pub sections : SECTION-BYTES * c .sections ≤ l .sections
   pub symbols : SYMBOL-BYTES * c .symbols ≤ l .symbols
   pub externs : EXTERN-BYTES * c .externs ≤ l .externs
@@ -142,8 +165,8 @@ rooms c l e =
     let b₃ = and-right (leb (EXTERN-BYTES * c .externs) (l .externs)) _ b₂ in
     record {
       image = leb-true _ _ (and-left (leb (PAGE-SIZE * c .pages) (l .image)) _ a);
-      marks = leb-true _ _ (and-left (leb (8 * markCount (c .pages)) (l .marks)) _ a₂);
-      sections = leb-true _ _ (and-right (leb (8 * markCount (c .pages)) (l .marks)) _ a₂);
+      marks = leb-true _ _ (and-left (leb (WORD-BYTES * wordsFor (c .pages)) (l .marks)) _ a₂);
+      sections = leb-true _ _ (and-right (leb (WORD-BYTES * wordsFor (c .pages)) (l .marks)) _ a₂);
       symbols = leb-true _ _ (and-left (leb (SYMBOL-BYTES * c .symbols) (l .symbols)) _ b);
       externs = leb-true _ _ (and-left (leb (EXTERN-BYTES * c .externs) (l .externs)) _ b₂);
       fixups = leb-true _ _ (and-left (leb (FIXUP-BYTES * c .fixups) (l .fixups)) _ b₃);
@@ -154,14 +177,14 @@ rooms c l e =
 pub record LoadLeaves (f : List ℕ) (base : ℕ) (s s′ : Storage) (c : Counts) : Type 0 where
   pub image : s′ .image ≡ laidImage f (headerOf f) base (length (externs f (headerOf f))) (s .image)
   pub image-behind : (k : ℕ) → PAGE-SIZE * c .pages ≤ k → getD (s′ .image) k 0 ≡ getD (s .image) k 0
-  pub marks : Keeps (markBytes (c .pages) (markCount (c .pages))) (8 * markCount (c .pages)) (s .marks) (s′ .marks)
+  pub marks : Keeps (markBytes (c .pages) (wordsFor (c .pages))) (WORD-BYTES * wordsFor (c .pages)) (s .marks) (s′ .marks)
   pub sections : Keeps (sectionTable f (headerOf f) base (startsTo f (headerOf f) (headerOf f .sections)) (undefStart f (headerOf f))) (SECTION-BYTES * c .sections) (s .sections) (s′ .sections)
-  pub symbols : Keeps (symbolTable f (headerOf f) base (ownMap f (headerOf f)) (homes f (headerOf f)) (recordsTo f (headerOf f) (headerOf f .sections))) (SYMBOL-BYTES * c .symbols) (s .symbols) (s′ .symbols)
+  pub symbols : Keeps (symbolTable f (headerOf f) base (isSymbol f (headerOf f)) (sectionHome f (headerOf f)) (homeRecords f (headerOf f) (headerOf f .sections))) (SYMBOL-BYTES * c .symbols) (s .symbols) (s′ .symbols)
   pub externs : Keeps (externTable f (headerOf f) base (undefStart f (headerOf f)) (externs f (headerOf f)) (length (externs f (headerOf f)))) (EXTERN-BYTES * c .externs) (s .externs) (s′ .externs)
   pub fixups : Keeps (fixTable base (outcomes f (headerOf f)) (relocationCount f (headerOf f)) (headerOf f .sections)) (FIXUP-BYTES * c .fixups) (s .fixups) (s′ .fixups)
   pub skips : Keeps (skipTable (outcomes f (headerOf f)) (relocationCount f (headerOf f)) (headerOf f .sections)) (SKIP-BYTES * c .skips) (s .skips) (s′ .skips)
 
-module _ (f : List ℕ) (base : ℕ) (s s′ : Storage) (c : Counts) (loads : Loads f base s s′ (Accepted c)) where
+module _ (f : List ℕ) (base : ℕ) (s s′ : Storage) (c : Counts) (loads : Loads f base s s′ (Loaded c)) where
   accepts : LoadAccepts f base s s′ c
   accepts = load-accepts f base s s′ c loads
 
@@ -176,7 +199,7 @@ module _ (f : List ℕ) (base : ℕ) (s s′ : Storage) (c : Counts) (loads : Lo
   unfolding countsBy
   sections-are = ap (λ (k : Counts). k .sections) (sym (accepts .counted))
 
-  symbols-are : c .symbols ≡ listedTotal f (headerOf f) (ownMap f (headerOf f)) (homes f (headerOf f))
+  symbols-are : c .symbols ≡ listedTotal f (headerOf f) (isSymbol f (headerOf f)) (sectionHome f (headerOf f))
   unfolding countsBy
   symbols-are = ap (λ (k : Counts). k .symbols) (sym (accepts .counted))
 
@@ -201,7 +224,7 @@ module _ (f : List ℕ) (base : ℕ) (s s′ : Storage) (c : Counts) (loads : Lo
         image = i;
         image-behind =
             λ k q. rw i (laid-past f (headerOf f) base (length (externs f (headerOf f))) (s .image) (accepts .pages) (accepts .names) (rw (← pages-counted) (fits .image)) k (rw (← pages-counted) q));
-        marks = keeps _ _ (s .marks) (s′ .marks) (length-marks (c .pages) (markCount (c .pages))) (fits .marks) (rw pages-counted (ap (λ (z : Storage). z .marks) l));
+        marks = keeps _ _ (s .marks) (s′ .marks) (length-marks (c .pages) (wordsFor (c .pages))) (fits .marks) (rw pages-counted (ap (λ (z : Storage). z .marks) l));
         sections = keeps _ _ (s .sections) (s′ .sections) (rw sections-are (sections-fill f (headerOf f) base _ _)) (fits .sections) (ap (λ (z : Storage). z .sections) l);
         symbols = keeps _ _ (s .symbols) (s′ .symbols) (rw symbols-are (symbols-fill f (headerOf f) base _ _ _)) (fits .symbols) (ap (λ (z : Storage). z .symbols) l);
         externs = keeps _ _ (s .externs) (s′ .externs) (rw externs-are (length-externs f (headerOf f) base _ _ _)) (fits .externs) (ap (λ (z : Storage). z .externs) l);
@@ -213,5 +236,5 @@ module _ (f : List ℕ) (base : ℕ) (s s′ : Storage) (c : Counts) (loads : Lo
 pub load-refused : (f : List ℕ) (base : ℕ) (s s′ : Storage) (n : ℕ) → Loads f base s s′ (Refused n) → s′ ≡ s
 unfolding pick
 load-refused f base s s′ n loads =
-    let t = tells-refused (firstFailed (loadChecks f (headerOf f) base s)) (counts f (headerOf f)) n (sym (loads .says)) in
+    let t = load-tells-refused (firstFailed (loadChecks f (headerOf f) base s)) (counts f (headerOf f)) n (sym (loads .says)) in
     rw (ne-eqb (firstFailed (loadChecks f (headerOf f) base s)) 0 (t .1)) at (loads .leaves)

@@ -1,5 +1,10 @@
 // Load: tables, marks and image into lent storage at a base, or a refusal that changes nothing.
+mod answer;
+
+pub use answer::Load;
 use arch::Arch;
+use arch::PAGE_SIZE;
+use arch::RVA;
 use arch::VA;
 use externs::Names;
 use object::Header;
@@ -7,14 +12,14 @@ use survey::Counts;
 use survey::Survey;
 ghost use mathlib.Core.Path.{_≡_};
 ghost use Prim.Native.Nat.{_≤_};
+ghost use lib.ListN.{length};
+ghost use Rattle.limits.specs.Limits.{MAX-SECTIONS, MAX-PAGES, EXTERN-ROOM};
+ghost use Rattle.object.specs.Symbol.{isOwn};
+ghost use Rattle.layout.specs.Layout.{mappedPages, startsTo};
+ghost use Rattle.homes.specs.Home.{homeIn, homeRecords};
 ghost use Rattle.externs.specs.Bisect.{bisect};
-ghost use Rattle.checks.specs.Limits.{MAX-SECTIONS, MAX-PAGES};
-ghost use Rattle.layout.specs.Layout.{startsTo};
-ghost use Rattle.layout.specs.Home.{recordsTo};
-ghost use Rattle.survey.specs.Survey.{ownMap, homes};
-ghost use Rattle.survey.specs.Surveying.{Fits};
-ghost use Rattle.load.specs.Load.{layoutRoom, listsRoom, roomFor, storedBy, LoadIs, Loads};
-ghost use Rattle.load.specs.Loading.{LayoutIs, NamesAre, Limits, Planned, storage, roomCode, plannedCounts, plannedCode, LoadsWith, LoadsAt};
+ghost use Rattle.load.specs.Load.{layoutRoom, listsRoom, roomFor, storedBy, Loads};
+ghost use Rattle.load.specs.Loading.{LayoutIs, NamesAre, Limits, storage, withRoom, PlannedBy, Blank, Plans};
 
 // The bytes of each lent buffer.
 struct Lengths {
@@ -29,62 +34,46 @@ struct Lengths {
 
 // The first three buffers have room.
 fn layout_room(c: Counts, l: Lengths) -> bool
-    requires { ⌜ c .pages ≤ MAX-PAGES ⌝ }
     ensures { λ r. ⌜ r ≡ layoutRoom c l ⌝ }
 {
-    let image = c.pages <= l.image / 4096;
-    if image {
-        let marks = (c.pages + 63) / 64 <= l.marks / 8;
-        if marks {
-            c.sections <= l.sections / 64
-        } else {
-            false
-        }
-    } else {
-        false
-    }
+    util::both(
+        c.pages <= l.image / PAGE_SIZE,
+        util::both(
+            marks::words_for(c.pages) <= l.marks / marks::WORD_BYTES,
+            c.sections <= l.sections / limits::SECTION_BYTES as u64,
+        ),
+    )
 }
 
 // The other four have room.
 fn lists_room(c: Counts, l: Lengths) -> bool
     ensures { λ r. ⌜ r ≡ listsRoom c l ⌝ }
 {
-    let symbols = c.symbols <= l.symbols / 48;
-    if symbols {
-        let externs = c.externs <= l.externs / 32;
-        if externs {
-            let fixups = c.fixups <= l.fixups / 24;
-            if fixups {
-                c.skips <= l.skips / 24
-            } else {
-                false
-            }
-        } else {
-            false
-        }
-    } else {
-        false
-    }
+    util::both(
+        c.symbols <= l.symbols / limits::SYMBOL_BYTES as u64,
+        util::both(
+            c.externs <= l.externs / limits::EXTERN_BYTES as u64,
+            util::both(
+                c.fixups <= l.fixups / limits::FIXUP_BYTES as u64,
+                c.skips <= l.skips / limits::SKIP_BYTES as u64,
+            ),
+        ),
+    )
 }
 
 // 13: each lent buffer has room for what is counted.
 fn room_ok(c: Counts, l: Lengths) -> bool
-    requires { ⌜ c .pages ≤ MAX-PAGES ⌝ }
     ensures { λ r. ⌜ r ≡ roomFor c l ⌝ }
 {
-    if layout_room(c, l) {
-        lists_room(c, l)
-    } else {
-        false
-    }
+    util::both(layout_room(c, l), lists_room(c, l))
 }
 
 fn write_laid(
     f: &[u8],
     h: Header,
-    base: u32,
+    base: VA,
     starts: &[u32],
-    undef: u32,
+    undef: RVA,
     pages: u32,
     n: u32,
     sections: &mut [u8],
@@ -92,7 +81,7 @@ fn write_laid(
     marks: &mut [u8],
 )
     ensures { λ _.
-        ⌜ LayoutIs (now (f .entry)) h base (now (starts .entry)) undef pages n (now (sections .entry)) (now (sections .exit)) (now (image .entry)) (now (image .exit))
+        ⌜ LayoutIs (now (f .entry)) h (base .0) (now (starts .entry)) (undef .0) pages n (now (sections .entry)) (now (sections .exit)) (now (image .entry)) (now (image .exit))
         (now (marks .entry)) (now (marks .exit)) ⌝ }
 {
     tables::write_sections(f, h, base, starts, undef, sections);
@@ -103,8 +92,8 @@ fn write_laid(
 fn write_layout(
     f: &[u8],
     h: Header,
-    base: u32,
-    undef: u32,
+    base: VA,
+    undef: RVA,
     pages: u32,
     n: u32,
     sections: &mut [u8],
@@ -113,10 +102,10 @@ fn write_layout(
 )
     requires { ⌜ h .sections ≤ MAX-SECTIONS ⌝ }
     ensures { λ _.
-        ⌜ LayoutIs (now (f .entry)) h base (startsTo (now (f .entry)) h (h .sections)) undef pages n (now (sections .entry)) (now (sections .exit)) (now (image .entry))
+        ⌜ LayoutIs (now (f .entry)) h (base .0) (startsTo (now (f .entry)) h (h .sections)) (undef .0) pages n (now (sections .entry)) (now (sections .exit)) (now (image .entry))
         (now (image .exit)) (now (marks .entry)) (now (marks .exit)) ⌝ }
 {
-    let mut starts = [0u32; 256];
+    let mut starts = [0u32; limits::MAX_SECTIONS];
     layout::fill_starts(f, h, &mut starts);
     write_laid(
         f,
@@ -135,54 +124,54 @@ fn write_layout(
 fn write_listed(
     f: &[u8],
     h: Header,
-    base: u32,
-    map: &[u8],
+    base: VA,
+    own: &[u8],
     homes: &[u32],
     records: &[u32],
-    undef: u32,
+    undef: RVA,
     n: u32,
-    set: &[u32],
+    slots: &[u32],
     symbols: &mut [u8],
     externs: &mut [u8],
 )
     ensures { λ _.
-        ⌜ NamesAre (now (f .entry)) h base (now (map .entry)) (now (homes .entry)) (now (records .entry)) undef n (now (set .entry)) (now (symbols .entry))
+        ⌜ NamesAre (now (f .entry)) h (base .0) (isOwn (now (own .entry))) (homeIn (now (homes .entry))) (now (records .entry)) (undef .0) n (now (slots .entry)) (now (symbols .entry))
         (now (symbols .exit)) (now (externs .entry)) (now (externs .exit)) ⌝ }
 {
-    symbol_table::write_symbols(f, h, base, map, homes, records, symbols);
-    tables::write_externs(f, h, base, undef, set, n, externs);
+    symbol_table::write_symbols(f, h, base, own, homes, records, symbols);
+    tables::write_externs(f, h, base, undef, slots, n, externs);
 }
 
 // The tables of symbols and of extern names; the homes' records are filled once.
 fn write_names(
     f: &[u8],
     h: Header,
-    base: u32,
-    map: &[u8],
+    base: VA,
+    own: &[u8],
     homes: &[u32],
-    undef: u32,
+    undef: RVA,
     n: u32,
-    set: &[u32],
+    slots: &[u32],
     symbols: &mut [u8],
     externs: &mut [u8],
 )
     requires { ⌜ h .sections ≤ MAX-SECTIONS ⌝ }
     ensures { λ _.
-        ⌜ NamesAre (now (f .entry)) h base (now (map .entry)) (now (homes .entry)) (recordsTo (now (f .entry)) h (h .sections)) undef n (now (set .entry))
+        ⌜ NamesAre (now (f .entry)) h (base .0) (isOwn (now (own .entry))) (homeIn (now (homes .entry))) (homeRecords (now (f .entry)) h (h .sections)) (undef .0) n (now (slots .entry))
         (now (symbols .entry)) (now (symbols .exit)) (now (externs .entry)) (now (externs .exit)) ⌝ }
 {
-    let mut records = [0u32; 256];
-    layout::fill_records(f, h, &mut records);
+    let mut records = [0u32; limits::MAX_SECTIONS];
+    homes::fill_records(f, h, &mut records);
     write_listed(
         f,
         h,
         base,
-        map,
+        own,
         homes,
         le::words(&records, h.sections as usize),
         undef,
         n,
-        set,
+        slots,
         symbols,
         externs,
     );
@@ -190,16 +179,12 @@ fn write_names(
 
 // Everything that is counted, into buffers that have room for it.
 fn write_all(
-    arch: Arch,
     f: &[u8],
     h: Header,
-    base: u32,
-    map: &[u8],
+    base: VA,
+    own: &[u8],
     homes: &[u32],
-    set: &[u32],
-    undef: u32,
-    pages: u32,
-    n: u32,
+    slots: &[u32],
     image: &mut [u8],
     marks: &mut [u8],
     sections: &mut [u8],
@@ -208,288 +193,87 @@ fn write_all(
     fixups: &mut [u8],
     skips: &mut [u8],
 )
-    requires { ⌜ Planned (now f) h (now set) arch undef pages n ⌝ }
+    requires { ⌜ Limits (now f) h (now slots) ⌝ }
     ensures { λ _.
         ⌜ storage (now (image .exit)) (now (marks .exit)) (now (sections .exit)) (now (symbols .exit)) (now (externs .exit)) (now (fixups .exit)) (now (skips .exit))
-        ≡ storedBy (now (f .entry)) h base (now (map .entry)) (now (homes .entry)) (now (set .entry)) (bisect (now (f .entry)) h (now (set .entry)))
+        ≡ storedBy (now (f .entry)) h (base .0) (isOwn (now (own .entry))) (homeIn (now (homes .entry))) (now (slots .entry)) (bisect (now (f .entry)) h (now (slots .entry)))
         (storage (now (image .entry)) (now (marks .entry)) (now (sections .entry)) (now (symbols .entry)) (now (externs .entry)) (now (fixups .entry)) (now (skips .entry))) ⌝ }
 {
-    write_layout(f, h, base, undef, pages, n, sections, image, marks);
-    write_names(f, h, base, map, homes, undef, n, set, symbols, externs);
-    lists::write_relocations(arch, f, h, map, homes, undef, set, base, fixups, skips);
+    let start = layout::undef_start(f, h);
+    let undef = layout::undef_offset(f, h);
+    let pages = layout::page_total(f, h);
+    let arch = Arch::by_machine(h.machine);
+    let n = slots.len() as u32;
+    write_layout(f, h, base, start, pages, n, sections, image, marks);
+    write_names(f, h, base, own, homes, start, n, slots, symbols, externs);
+    lists::write_relocations(arch, f, h, own, homes, undef, slots, base, fixups, skips);
 }
 
-fn write_counted(
-    f: &[u8],
-    h: Header,
-    base: u32,
-    map: &[u8],
-    homes: &[u32],
-    set: &[u32],
-    image: &mut [u8],
-    marks: &mut [u8],
-    sections: &mut [u8],
-    symbols: &mut [u8],
-    externs: &mut [u8],
-    fixups: &mut [u8],
-    skips: &mut [u8],
-)
-    requires { ⌜ Limits (now f) h (now set) ⌝ }
-    ensures { λ _.
-        ⌜ storage (now (image .exit)) (now (marks .exit)) (now (sections .exit)) (now (symbols .exit)) (now (externs .exit)) (now (fixups .exit)) (now (skips .exit))
-        ≡ storedBy (now (f .entry)) h base (now (map .entry)) (now (homes .entry)) (now (set .entry)) (bisect (now (f .entry)) h (now (set .entry)))
-        (storage (now (image .entry)) (now (marks .entry)) (now (sections .entry)) (now (symbols .entry)) (now (externs .entry)) (now (fixups .entry)) (now (skips .entry))) ⌝ }
-{
-    let undef = survey::undef_offset(f, h);
-    let pages = survey::page_total(f, h);
-    let arch = survey::machine_of(h);
-    let n = set.len() as u32;
-    write_all(
-        arch,
-        f,
-        h,
-        base,
-        map,
-        homes,
-        set,
-        undef,
-        pages,
-        n,
-        image,
-        marks,
-        sections,
-        symbols,
-        externs,
-        fixups,
-        skips,
-    );
+// What is known before a buffer is touched: a refusal, or the counts and how many extern names there are.
+enum Plan {
+    Refused(u64),
+    Ready(Counts, usize),
 }
 
-// 13, or everything is written.
-fn load_room(
-    f: &[u8],
-    h: Header,
-    base: u32,
-    map: &[u8],
-    homes: &[u32],
-    set: &[u32],
-    c: Counts,
-    image: &mut [u8],
-    marks: &mut [u8],
-    sections: &mut [u8],
-    symbols: &mut [u8],
-    externs: &mut [u8],
-    fixups: &mut [u8],
-    skips: &mut [u8],
-) -> Survey
-    requires { ⌜ Limits (now f) h (now set) × (c .pages ≤ MAX-PAGES) ⌝ }
-    ensures { λ r.
-        ⌜ LoadIs
-        (roomCode c (storage (now (image .entry)) (now (marks .entry)) (now (sections .entry)) (now (symbols .entry)) (now (externs .entry)) (now (fixups .entry)) (now (skips .entry))))
-        c
-        (storedBy (now (f .entry)) h base (now (map .entry)) (now (homes .entry)) (now (set .entry)) (bisect (now (f .entry)) h (now (set .entry)))
-        (storage (now (image .entry)) (now (marks .entry)) (now (sections .entry)) (now (symbols .entry)) (now (externs .entry)) (now (fixups .entry)) (now (skips .entry))))
-        (storage (now (image .entry)) (now (marks .entry)) (now (sections .entry)) (now (symbols .entry)) (now (externs .entry)) (now (fixups .entry)) (now (skips .entry)))
-        (storage (now (image .exit)) (now (marks .exit)) (now (sections .exit)) (now (symbols .exit)) (now (externs .exit)) (now (fixups .exit)) (now (skips .exit)))
-        r ⌝ }
+// 13 behind survey's refusals.
+fn with_room(s: Survey, l: Lengths, n: usize) -> Plan
+    ensures { λ r. ⌜ r ≡ withRoom s l n ⌝ }
 {
-    let l = Lengths {
-        image: image.len() as u64,
-        marks: marks.len() as u64,
-        sections: sections.len() as u64,
-        symbols: symbols.len() as u64,
-        externs: externs.len() as u64,
-        fixups: fixups.len() as u64,
-        skips: skips.len() as u64,
-    };
-    if room_ok(c, l) {
-        write_counted(
-            f,
-            h,
-            base,
-            map,
-            homes,
-            set,
-            image,
-            marks,
-            sections,
-            symbols,
-            externs,
-            fixups,
-            skips,
-        );
-        Survey::Accepted(c)
-    } else {
-        Survey::Refused(refusal::STORAGE)
+    match s {
+        Survey::Refused(k) => Plan::Refused(k),
+        Survey::Accepted(c) => {
+            if room_ok(c, l) {
+                Plan::Ready(c, n)
+            } else {
+                Plan::Refused(refusal::STORAGE)
+            }
+        }
     }
 }
 
-// The targets, the places, then 13.
-fn load_planned(
+// From refusal 9 on.
+fn plan_names(
     f: &[u8],
     h: Header,
-    base: u32,
-    map: &[u8],
+    l: Lengths,
+    own: &[u8],
     homes: &[u32],
-    set: &[u32],
-    image: &mut [u8],
-    marks: &mut [u8],
-    sections: &mut [u8],
-    symbols: &mut [u8],
-    externs: &mut [u8],
-    fixups: &mut [u8],
-    skips: &mut [u8],
-) -> Survey
-    requires { ⌜ Limits (now f) h (now set) ⌝ }
-    ensures { λ r.
-        ⌜ LoadIs (plannedCode (now (f .entry)) h (now (map .entry)) (now (homes .entry)) (now (set .entry))
-        (storage (now (image .entry)) (now (marks .entry)) (now (sections .entry)) (now (symbols .entry)) (now (externs .entry)) (now (fixups .entry)) (now (skips .entry))))
-        (plannedCounts (now (f .entry)) h (now (map .entry)) (now (homes .entry)) (now (set .entry)))
-        (storedBy (now (f .entry)) h base (now (map .entry)) (now (homes .entry)) (now (set .entry)) (bisect (now (f .entry)) h (now (set .entry)))
-        (storage (now (image .entry)) (now (marks .entry)) (now (sections .entry)) (now (symbols .entry)) (now (externs .entry)) (now (fixups .entry)) (now (skips .entry))))
-        (storage (now (image .entry)) (now (marks .entry)) (now (sections .entry)) (now (symbols .entry)) (now (externs .entry)) (now (fixups .entry)) (now (skips .entry)))
-        (storage (now (image .exit)) (now (marks .exit)) (now (sections .exit)) (now (symbols .exit)) (now (externs .exit)) (now (fixups .exit)) (now (skips .exit)))
-        r ⌝ }
+    slots: &mut [u32; limits::EXTERN_ROOM],
+) -> Plan
+    requires { ⌜ mappedPages (now f) h ≤ MAX-PAGES ⌝ }
+    ensures { λ r. ⌜ PlannedBy (now (f .entry)) h (isOwn (now (own .entry))) (homeIn (now (homes .entry))) l (now (slots .exit)) r ⌝ }
+    ensures { λ _. ⌜ length (now (slots .exit)) ≡ EXTERN-ROOM ⌝ }
 {
-    match survey::survey_planned(f, h, map, homes, set) {
-        Survey::Refused(n) => Survey::Refused(n),
-        Survey::Accepted(c) => load_room(
-            f,
-            h,
-            base,
-            map,
-            homes,
-            set,
-            c,
-            image,
-            marks,
-            sections,
-            symbols,
-            externs,
-            fixups,
-            skips,
+    match externs::collect(f, h, own, slots) {
+        Names::TooMany => Plan::Refused(refusal::EXTERNS),
+        Names::Count(n) => with_room(
+            survey::survey_planned(f, h, own, homes, le::words(slots, n)),
+            l,
+            n,
         ),
     }
 }
 
-// The names without a section, collected once.
-fn load_externs(
+// From refusal 1 on; the arrays are the caller's, and hold zeros before.
+fn plan_file(
     f: &[u8],
     h: Header,
-    base: u32,
-    map: &[u8],
-    homes: &[u32],
-    image: &mut [u8],
-    marks: &mut [u8],
-    sections: &mut [u8],
-    symbols: &mut [u8],
-    externs: &mut [u8],
-    fixups: &mut [u8],
-    skips: &mut [u8],
-) -> Survey
-    requires { ⌜ Fits (now f) h ⌝ }
-    ensures { λ r.
-        ⌜ LoadsWith (now (f .entry)) h base (now (map .entry)) (now (homes .entry))
-        (storage (now (image .entry)) (now (marks .entry)) (now (sections .entry)) (now (symbols .entry)) (now (externs .entry)) (now (fixups .entry)) (now (skips .entry)))
-        (storage (now (image .exit)) (now (marks .exit)) (now (sections .exit)) (now (symbols .exit)) (now (externs .exit)) (now (fixups .exit)) (now (skips .exit)))
-        r ⌝ }
+    l: Lengths,
+    own: &mut [u8],
+    homes: &mut [u32],
+    slots: &mut [u32; limits::EXTERN_ROOM],
+) -> Plan
+    requires { ⌜ Blank (now f) h (now own) (now homes) (now slots) ⌝ }
+    ensures { λ r. ⌜ Plans (now (f .entry)) h l (now (own .exit)) (now (homes .exit)) (now (slots .exit)) r ⌝ }
+    ensures { λ _. ⌜ length (now (slots .exit)) ≡ EXTERN-ROOM ⌝ }
 {
-    let mut set = [0u32; 1025];
-    match externs::collect(f, h, map, &mut set) {
-        Names::TooMany => Survey::Refused(refusal::EXTERNS),
-        Names::Count(n) => load_planned(
-            f,
-            h,
-            base,
-            map,
-            homes,
-            le::words(&set, n),
-            image,
-            marks,
-            sections,
-            symbols,
-            externs,
-            fixups,
-            skips,
-        ),
-    }
-}
-
-// The map of own records, filled once.
-fn load_records(
-    f: &[u8],
-    h: Header,
-    base: u32,
-    image: &mut [u8],
-    marks: &mut [u8],
-    sections: &mut [u8],
-    symbols: &mut [u8],
-    externs: &mut [u8],
-    fixups: &mut [u8],
-    skips: &mut [u8],
-) -> Survey
-    requires { ⌜ Fits (now f) h ⌝ }
-    ensures { λ r.
-        ⌜ LoadsWith (now (f .entry)) h base (ownMap (now (f .entry)) h) (homes (now (f .entry)) h)
-        (storage (now (image .entry)) (now (marks .entry)) (now (sections .entry)) (now (symbols .entry)) (now (externs .entry)) (now (fixups .entry)) (now (skips .entry)))
-        (storage (now (image .exit)) (now (marks .exit)) (now (sections .exit)) (now (symbols .exit)) (now (externs .exit)) (now (fixups .exit)) (now (skips .exit)))
-        r ⌝ }
-{
-    let mut map = [0u8; 16384];
-    object::fill_primaries(f, h, &mut map);
-    let mut homes = [0u32; 256];
-    layout::fill_homes(f, h, &mut homes);
-    load_externs(
-        f,
-        h,
-        base,
-        le::part(&map, 0, h.symbols as usize),
-        le::words(&homes, h.sections as usize),
-        image,
-        marks,
-        sections,
-        symbols,
-        externs,
-        fixups,
-        skips,
-    )
-}
-
-// From refusal 1 on.
-fn load_at(
-    f: &[u8],
-    base: u32,
-    image: &mut [u8],
-    marks: &mut [u8],
-    sections: &mut [u8],
-    symbols: &mut [u8],
-    externs: &mut [u8],
-    fixups: &mut [u8],
-    skips: &mut [u8],
-) -> Survey
-    ensures { λ r.
-        ⌜ LoadsAt (now (f .entry)) base
-        (storage (now (image .entry)) (now (marks .entry)) (now (sections .entry)) (now (symbols .entry)) (now (externs .entry)) (now (fixups .entry)) (now (skips .entry)))
-        (storage (now (image .exit)) (now (marks .exit)) (now (sections .exit)) (now (symbols .exit)) (now (externs .exit)) (now (fixups .exit)) (now (skips .exit)))
-        r ⌝ }
-{
-    let h = object::read_header(f);
     let code = survey::records_code(f, h);
     if code == 0 {
-        load_records(
-            f,
-            h,
-            base,
-            image,
-            marks,
-            sections,
-            symbols,
-            externs,
-            fixups,
-            skips,
-        )
+        object::fill_primaries(f, h, own);
+        homes::fill_homes(f, h, homes);
+        plan_names(f, h, l, own, homes, slots)
     } else {
-        Survey::Refused(code)
+        Plan::Refused(code)
     }
 }
 
@@ -504,27 +288,48 @@ pub fn load(
     externs: &mut [u8],
     fixups: &mut [u8],
     skips: &mut [u8],
-) -> Survey
+) -> Load
     ensures { λ r.
         ⌜ Loads (now (f .entry)) (base .0)
         (storage (now (image .entry)) (now (marks .entry)) (now (sections .entry)) (now (symbols .entry)) (now (externs .entry)) (now (fixups .entry)) (now (skips .entry)))
         (storage (now (image .exit)) (now (marks .exit)) (now (sections .exit)) (now (symbols .exit)) (now (externs .exit)) (now (fixups .exit)) (now (skips .exit)))
         r ⌝ }
 {
-    if checks::base_ok(base.0) {
-        let low = (base.0 % 0x100000000) as u32;
-        load_at(
-            f,
-            low,
-            image,
-            marks,
-            sections,
-            symbols,
-            externs,
-            fixups,
-            skips,
-        )
-    } else {
-        Survey::Refused(refusal::BASE)
+    if !checks::base_ok(base) {
+        return Load::Refused(refusal::BASE);
+    }
+    let l = Lengths {
+        image: image.len() as u64,
+        marks: marks.len() as u64,
+        sections: sections.len() as u64,
+        symbols: symbols.len() as u64,
+        externs: externs.len() as u64,
+        fixups: fixups.len() as u64,
+        skips: skips.len() as u64,
+    };
+    let h = object::read_header(f);
+    let mut own = [0u8; limits::MAX_SYMBOLS];
+    let mut homes = [0u32; limits::MAX_SECTIONS];
+    let mut slots = [0u32; limits::EXTERN_ROOM];
+    match plan_file(f, h, l, &mut own, &mut homes, &mut slots) {
+        Plan::Refused(n) => Load::Refused(n),
+        Plan::Ready(c, n) => {
+            write_all(
+                f,
+                h,
+                base,
+                &own,
+                &homes,
+                le::words(&slots, n),
+                image,
+                marks,
+                sections,
+                symbols,
+                externs,
+                fixups,
+                skips,
+            );
+            Load::Loaded(c)
+        }
     }
 }

@@ -4,15 +4,15 @@ use mathlib.Core.Bool.{Bool, true, false, not}
 use mathlib.Core.List.{List}
 use Prim.Native.Nat.{ℕ, _+_, _*_, _<_, _≤_}
 use native.Mathlib.Numerals.{add-one}
-use native.Mathlib.Omega.{arith}
 use lib.Dec.{T}
 use lib.ListN.{length, set, drop, drop-of-length-le}
 use lib.Seq.{drop-cons}
 use Rattle.util.specs.Pick.{pick}
 use Rattle.le.specs.Le.{get}
-use Rattle.words.specs.Words.{wordOf}
+use Rattle.arch.specs.Address.{va}
+use Rattle.words.specs.Words.{WORD, wordOf}
 use Rattle.section.specs.declared.Section.{Section}
-use Rattle.module.specs.Questions.{firstOf, sectionAt, fillTo, blank, nth}
+use Rattle.module.specs.Questions.{firstOf, SECTION-WORDS, sectionAt, fillTo, blank, nth}
 
 -- ---- a scan by index: what is left of the list from i on
 picks : {A : Type 0} (b : Bool) (x y : A) → T b → pick b x y ≡ x
@@ -47,12 +47,14 @@ unfolding fillTo
 fillTo-next table n t = rw add-one
 
 -- ---- where a word stands
-pub section-word-is : (table : List ℕ) (r w x : ℕ) → x ≡ get 8 table (64 * r + 8 * w) → x ≡ wordOf 8 table r w
+pub section-word-is : (table : List ℕ) (r w x : ℕ) → x ≡ get WORD table (WORD * (SECTION-WORDS * r + w)) → x ≡ wordOf SECTION-WORDS table r w
 unfolding wordOf
-section-word-is table r w x e = let k : 8 * (8 * r + w) ≡ 64 * r + 8 * w = omega arith in rw k e
+section-word-is table r w x e = e
 
-pub section-is : (table : List ℕ) (r a b c d e f g h : ℕ)
-    → a ≡ wordOf 8 table r 0 → b ≡ wordOf 8 table r 1 → c ≡ wordOf 8 table r 2 → d ≡ wordOf 8 table r 3
-    → e ≡ wordOf 8 table r 4 → f ≡ wordOf 8 table r 5 → g ≡ wordOf 8 table r 6 → h ≡ wordOf 8 table r 7
-    → _≡_ {A = Section} (record { start = a; end = b; «file_start» = c; «file_end» = d; permissions = e; «name_start» = f; «name_length» = g; number = h }) (sectionAt table r)
-section-is table r a b c d e f g h i j k l m n o p = rw (i, j, k, l, m, n, o, p)
+module _ (table : List ℕ) (r : ℕ) where
+  abbrev word : ℕ → ℕ
+  word = wordOf SECTION-WORDS table r
+
+  pub section-is : (a b c d e f g h : ℕ) → a ≡ word 0 → b ≡ word 1 → c ≡ word 2 → d ≡ word 3 → e ≡ word 4 → f ≡ word 5 → g ≡ word 6 → h ≡ word 7
+      → _≡_ {A = Section} (record { start = va a; end = va b; «file_start» = c; «file_end» = d; permissions = e; «name_start» = f; «name_length» = g; number = h }) (sectionAt table r)
+  section-is a b c d e f g h i j k l m n o p = rw (i, j, k, l, m, n, o, p)

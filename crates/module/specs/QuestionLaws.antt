@@ -10,15 +10,16 @@ use borrow.Author.Tests.{leb-true, le-leb, lt-ltb}
 use lib.Dec.{leb, ltb}
 use lib.ListN.{length, length-set}
 use lib.Seq.{getD-set-same, getD-set-other}
+use Rattle.refusal.specs.Refusal.{NO-SECTION}
 use Rattle.util.specs.Pick.{pick, yes-no, and-left, and-both}
 use Rattle.arch.specs.declared.VA.{VA}
 use Rattle.arch.specs.Address.{va}
-use Rattle.tables.specs.Sections.{SECTION-BYTES}
+use Rattle.limits.specs.Limits.{SECTION-BYTES}
 use Rattle.refusal.specs.declared.Number.the-variants.{Value, Refusal}
 use Rattle.answers.specs.declared.AddressAnswer.the-variants.{Found}
 use Rattle.section.specs.declared.Section.{Section}
 use Rattle.section.specs.declared.Probe.{Probe}
-use Rattle.section.specs.Section.{within, holds, fileHolds, intersects, grants, intersects-none}
+use Rattle.section.specs.Section.{holds, fileHolds, intersects, grants, intersects-none}
 use Rattle.module.specs.Questions.{
   firstOf,
   offsetIn,
@@ -60,7 +61,7 @@ module _ {A : Type 0} (p : Section → Bool) (a : ℕ → Section → A) (z : A)
   none-is t n = none-at t 0 n
 
 -- an address that no section holds is refused by 19
-pub refused-outside : (t : List Section) (x : VA) → ((j : ℕ) → j < length t → holds x (nth t j) ≡ false) → (fileOffset t x ≡ Refusal 19) × (sectionOf t x ≡ Refusal 19)
+pub refused-outside : (t : List Section) (x : VA) → ((j : ℕ) → j < length t → holds x (nth t j) ≡ false) → (fileOffset t x ≡ Refusal NO-SECTION) × (sectionOf t x ≡ Refusal NO-SECTION)
 refused-outside t x n = (none-is (holds x) (offsetIn x) NONE t n, none-is (holds x) numbered NONE t n)
 
 -- ---- there and back: section i is the first that holds the address, its file range reaches so far, and no earlier section has that byte of the file
@@ -69,16 +70,15 @@ module _ (t : List Section) (x : VA) (i : ℕ) (l : i < length t) (h : holds x (
   s = nth t i
 
   abbrev place : ℕ
-  place = s .«file_start» + (x .0 - s .start)
+  place = s .«file_start» + (x .0 - s .start .0)
 
   pub offset-of-address : place < 2 ^ 64 → fileOffset t x ≡ Value place
   offset-of-address f = first-is (holds x) (offsetIn x) NONE t i l h first ∙ ap Value (mod-eq-of-lt f)
 
   pub address-of-offset : place < s .«file_end» → x .0 < 2 ^ 64 → ((j : ℕ) → j < i → fileHolds place (nth t j) ≡ false) → virtualAddress t place ≡ Found x
-  unfolding within
   address-of-offset raw f none =
-      let low : s .start ≤ x .0 = leb-true (s .start) (x .0) (and-left (leb (s .start) (x .0)) (ltb (x .0) (s .end)) h) in
-      let back : s .start + (place - s .«file_start») ≡ x .0 = omega arith in
+      let low : s .start .0 ≤ x .0 = leb-true (s .start .0) (x .0) (and-left (leb (s .start .0) (x .0)) (ltb (x .0) (s .end .0)) h) in
+      let back : s .start .0 + (place - s .«file_start») ≡ x .0 = omega arith in
       let inside : fileHolds place s ≡ true = and-both (leb (s .«file_start») place) (ltb place (s .«file_end»)) (le-leb (s .«file_start») place (omega arith)) (lt-ltb place (s .«file_end») raw) in
       first-is (fileHolds place) (addressIn place) NO-ADDRESS t i l inside none ∙ ap (λ (v : ℕ). Found (va v)) (ap (λ (v : ℕ). v % 2 ^ 64) back ∙ mod-eq-of-lt f)
 
@@ -92,12 +92,10 @@ some-at p (s ∷ t) (suc i) k l h =
     ⊎-elim (λ e. rw e) (λ e. rw e (some-at p t i (suc k) (le-of-suc-le-suc l) h)) (yes-no (p s))
 
 pub probe-yes : (t : List Section) (q : Probe) (i : ℕ) → i < length t → holds (q .va) (nth t i) ≡ true → intersects (nth t i .permissions) (q .permissions) ≡ true → probeVa t q ≡ true
-unfolding grants
 probe-yes t q i l h e = some-at (grants q) t i 0 l (and-both (holds (q .va) (nth t i)) (intersects (nth t i .permissions) (q .permissions)) h e)
 
 -- with no permission asked for it is no
 pub probe-none : (t : List Section) (x : VA) → probeVa t (record { va = x; permissions = 0 }) ≡ false
-unfolding grants
 probe-none t x =
     none-is (grants (record { va = x; permissions = 0 })) (λ _ _. true) false t
     (λ j q. rw (intersects-none (nth t j .permissions)) (and-false (holds x (nth t j))))

@@ -11,8 +11,8 @@ use Rattle.refusal.specs.declared.Number.{Number}
 use Rattle.refusal.specs.declared.Number.the-variants.{Value, Refusal}
 use Rattle.answers.specs.declared.AddressAnswer.{AddressAnswer}
 use Rattle.answers.specs.declared.AddressAnswer.the-variants.{Found, Refused}
-use Rattle.words.specs.Words.{wordOf}
-use Rattle.tables.specs.Sections.{SECTION-BYTES}
+use Rattle.words.specs.Words.{WORD, wordOf}
+use Rattle.limits.specs.Limits.{SECTION-BYTES}
 use Rattle.section.specs.declared.Section.{Section}
 use Rattle.section.specs.declared.Probe.{Probe}
 use Rattle.section.specs.declared.OffsetProbe.{OffsetProbe}
@@ -23,19 +23,22 @@ unfoldable pub firstOf : {A : Type 0} → (Section → Bool) → (ℕ → Sectio
 firstOf p a none [] i = none
 firstOf p a none (s ∷ t) i = pick (p s) (a i s) (firstOf p a none t (suc i))
 
--- as far into the file range as the address is into the range; and the other way. No sum of load's records is past 64 bits.
+-- as far behind `to` as x lies behind `from`; no sum of load's records is past 64 bits
 abbrev pub moved : ℕ → ℕ → ℕ → ℕ
 moved from to x = (to + (x - from)) % 2 ^ 64
 
+-- what the section that a scan finds answers: as far into the file range as the address is into the range, and the other way
 abbrev pub offsetIn : VA → ℕ → Section → Number
-offsetIn a i s = Value (moved (s .start) (s .«file_start») (a .0))
+offsetIn a i s = Value (moved (s .start .0) (s .«file_start») (a .0))
 
 abbrev pub addressIn : ℕ → ℕ → Section → AddressAnswer
-addressIn o i s = Found (va (moved (s .«file_start») (s .start) o))
+addressIn o i s = Found (va (moved (s .«file_start») (s .start .0) o))
 
+-- its number in the table
 abbrev pub numbered : ℕ → Section → Number
 numbered i s = Value i
 
+-- what a scan answers that finds none
 abbrev pub NONE : Number
 NONE = Refusal NO-SECTION
 
@@ -43,19 +46,21 @@ abbrev pub NO-ADDRESS : AddressAnswer
 NO-ADDRESS = Refused NO-SECTION
 
 -- ---- the questions
+-- the file offset of an address, and the address of a file offset
 abbrev pub fileOffset : List Section → VA → Number
 fileOffset t a = firstOf (holds a) (offsetIn a) NONE t 0
 
 abbrev pub virtualAddress : List Section → ℕ → AddressAnswer
 virtualAddress t o = firstOf (fileHolds o) (addressIn o) NO-ADDRESS t 0
 
+-- the number in the table of the section that holds an address, that has a place of the file, that has a name
 abbrev pub sectionOf : List Section → VA → Number
 sectionOf t a = firstOf (holds a) numbered NONE t 0
 
 abbrev pub sectionOfOffset : List Section → ℕ → Number
 sectionOfOffset t o = firstOf (fileHolds o) numbered NONE t 0
 
--- here none is 20
+-- where none has the name it is 20
 abbrev pub sectionNamed : List Section → List ℕ → List ℕ → Number
 sectionNamed t file name = firstOf (sectionHasName file name) numbered (Refusal NO-ENTRY) t 0
 
@@ -74,16 +79,21 @@ abbrev pub isInImage : List Section → VA → Bool
 isInImage t a = isBacked t (fileOffset t a)
 
 -- ---- the table that load wrote
+-- how many words a record has
+abbrev pub SECTION-WORDS : ℕ
+SECTION-WORDS = SECTION-BYTES / WORD
+
+-- record r, its words in their order
 abbrev pub sectionAt : List ℕ → ℕ → Section
 sectionAt table r = record {
-  start = wordOf 8 table r 0;
-  end = wordOf 8 table r 1;
-  «file_start» = wordOf 8 table r 2;
-  «file_end» = wordOf 8 table r 3;
-  permissions = wordOf 8 table r 4;
-  «name_start» = wordOf 8 table r 5;
-  «name_length» = wordOf 8 table r 6;
-  number = wordOf 8 table r 7;
+  start = va (wordOf SECTION-WORDS table r 0);
+  end = va (wordOf SECTION-WORDS table r 1);
+  «file_start» = wordOf SECTION-WORDS table r 2;
+  «file_end» = wordOf SECTION-WORDS table r 3;
+  permissions = wordOf SECTION-WORDS table r 4;
+  «name_start» = wordOf SECTION-WORDS table r 5;
+  «name_length» = wordOf SECTION-WORDS table r 6;
+  number = wordOf SECTION-WORDS table r 7;
 }
 
 -- t with its first n records from the table
@@ -97,7 +107,8 @@ filled table t = fillTo table (min (length table / SECTION-BYTES) (length t)) t
 
 -- what stands past the end of a table
 abbrev pub blank : Section
-blank = record { start = 0; end = 0; «file_start» = 0; «file_end» = 0; permissions = 0; «name_start» = 0; «name_length» = 0; number = 0 }
+blank = record { start = va 0; end = va 0; «file_start» = 0; «file_end» = 0; permissions = 0; «name_start» = 0; «name_length» = 0; number = 0 }
 
+-- record i
 abbrev pub nth : List Section → ℕ → Section
 nth t i = getD t i blank

@@ -1,11 +1,11 @@
 // Questions to the section table, which lies in storage that the caller lends, one record a section; from module.rs.
 ghost use mathlib.Core.Path.{_≡_};
 ghost use mathlib.Core.Bool.{true, false};
-ghost use Prim.Native.Nat.{_<_, _/_, _^_, min};
+ghost use Prim.Native.Nat.{_+_, _*_, _<_, _≤_, _/_, _^_, min};
 ghost use Rattle.refusal.specs.Refusal.{NO-ENTRY};
 ghost use Rattle.refusal.specs.declared.Number.the-variants.{Value, Refusal};
 ghost use Rattle.words.specs.Words.{wordOf};
-ghost use Rattle.tables.specs.Sections.{SECTION-BYTES};
+ghost use Rattle.limits.specs.Limits.{SECTION-BYTES};
 ghost use Rattle.module.specs.Questions.{
   moved,
   offsetIn,
@@ -22,6 +22,7 @@ ghost use Rattle.module.specs.Questions.{
   probeRva,
   isBacked,
   isInImage,
+  SECTION-WORDS,
   sectionAt,
   filled,
 };
@@ -34,23 +35,25 @@ use section::OffsetProbe;
 use section::Probe;
 use section::Section;
 
-const SECTION_BYTES: usize = 64;
+// How many words a record has.
+const SECTION_WORDS: usize = 8;
 
 // Word w of record r of the section table that load wrote.
 fn section_word(table: &[u8], r: usize, w: u8) -> u64
-    requires { ⌜ (r < 2 ^ 58) × (w < 8) ⌝ }
-    ensures { λ x. ⌜ x ≡ wordOf 8 (now (table .entry)) r w ⌝ }
+    requires { ⌜ (SECTION-BYTES * r + SECTION-BYTES ≤ 2 ^ 64) × (w < SECTION-WORDS) ⌝ }
+    ensures { λ x. ⌜ x ≡ wordOf SECTION-WORDS (now (table .entry)) r w ⌝ }
 {
-    le::u64_at(table, SECTION_BYTES * r + 8 * (w as usize))
+    le::u64_at(table, words::WORD * (SECTION_WORDS * r + w as usize))
 }
 
+// Record r, its words in their order.
 fn section_at(table: &[u8], r: usize) -> Section
-    requires { ⌜ r < 2 ^ 58 ⌝ }
+    requires { ⌜ SECTION-BYTES * r + SECTION-BYTES ≤ 2 ^ 64 ⌝ }
     ensures { λ s. ⌜ s ≡ sectionAt (now (table .entry)) r ⌝ }
 {
     Section {
-        start: section_word(table, r, 0),
-        end: section_word(table, r, 1),
+        start: VA(section_word(table, r, 0)),
+        end: VA(section_word(table, r, 1)),
         file_start: section_word(table, r, 2),
         file_end: section_word(table, r, 3),
         permissions: section_word(table, r, 4),
@@ -64,7 +67,7 @@ fn section_at(table: &[u8], r: usize) -> Section
 fn to_fill(bytes: usize, room: usize) -> usize
     ensures { λ r. ⌜ r ≡ min (bytes / SECTION-BYTES) room ⌝ }
 {
-    let n = bytes / SECTION_BYTES;
+    let n = bytes / limits::SECTION_BYTES;
     if n < room { n } else { room }
 }
 
@@ -95,13 +98,13 @@ fn moved(from: u64, to: u64, x: u64) -> u64
 fn offset_in(_i: usize, s: Section, va: VA) -> Number
     ensures { λ r. ⌜ r ≡ offsetIn va «_i» s ⌝ }
 {
-    Number::Value(moved(s.start, s.file_start, va.0))
+    Number::Value(moved(s.start.0, s.file_start, va.0))
 }
 
 fn address_in(_i: usize, s: Section, offset: u64) -> AddressAnswer
     ensures { λ r. ⌜ r ≡ addressIn offset «_i» s ⌝ }
 {
-    AddressAnswer::Found(VA(moved(s.file_start, s.start, offset)))
+    AddressAnswer::Found(VA(moved(s.file_start, s.start.0, offset)))
 }
 
 fn index_at(i: usize, _s: Section, _va: VA) -> Number

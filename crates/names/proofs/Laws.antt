@@ -1,6 +1,6 @@
 -- The loops over bytes, and the ways through the name readers. Assumes nothing.
 use mathlib.Core.Path.{_≡_, refl, sym, ap}
-use mathlib.Core.Bool.{Bool, true, false, and-false}
+use mathlib.Core.Bool.{Bool, true, false, and-false, _&&_, not}
 use mathlib.Core.List.{List, [], _∷_}
 use mathlib.Core.Logic.{⊎-elim}
 use Prim.Native.Nat.{ℕ, zero, suc, _+_, _-_, _*_, _^_, _≤_, _<_, min}
@@ -56,30 +56,9 @@ module _ (f : List ℕ) (at n : ℕ) where
 
 pub ruleset run-loop = (run-none, run-zero, run-more, run-end)
 
--- ---- visible bytes and digits
-module _ (b : ℕ) where
-  pub visible-in : leb 0x21 b ≡ true → leb b 0x7E ≡ visible b
-  visible-in e = rw e
-
-  pub visible-low : leb 0x21 b ≡ false → false ≡ visible b
-  visible-low e = rw e
-
-  pub digit-in : leb 0x30 b ≡ true → leb b 0x39 ≡ isDigit b
-  digit-in e = rw e
-
-  pub digit-low : leb 0x30 b ≡ false → false ≡ isDigit b
-  digit-low e = rw e
-
-pub ruleset byte-tests = (visible-in, visible-low, digit-in, digit-low)
-
-module _ (s : List ℕ) where
-  pub good-empty : eqb (length s) 0 ≡ true → false ≡ goodSymbolName s
-  unfolding goodSymbolName
-  good-empty e = rw e
-
-  pub good-rest : (r : Bool) → eqb (length s) 0 ≡ false → r ≡ allVisible s → r ≡ goodSymbolName s
-  unfolding goodSymbolName
-  good-rest r e q = rw e q
+pub good-is : (s : List ℕ) {r v : Bool} → r ≡ (not (eqb (length s) 0) && v) → v ≡ allVisible s → r ≡ goodSymbolName s
+unfolding goodSymbolName
+good-is s e q = rw (← q) e
 
 -- ---- decimal
 module _ (s : List ℕ) (k : ℕ) where

@@ -7,7 +7,7 @@ use lib.Dec.{ltb, leb, eqb}
 use Rattle.util.specs.Pick.{pick}
 use Rattle.le.specs.Le.{get, part}
 use Rattle.object.specs.declared.Header.{Header}
-use Rattle.object.specs.Format.{NAME-SIZE, sectionAt, symbolAt, stringTable, stringLength}
+use Rattle.object.specs.Format.{NAME-SIZE, LENGTH-SIZE, sectionHeaderAt, symbolRecordAt, stringTable, stringLength}
 use Rattle.names.specs.declared.Name.{Name}
 use Rattle.names.specs.declared.Name.the-variants.{Good, Bad}
 use Rattle.names.specs.Bytes.{run, goodSectionName, goodSymbolName, allDigits, decimal}
@@ -25,7 +25,7 @@ shortRun f at = Good at (run f at NAME-SIZE)
 -- in the string table at an offset of at least 4, up to a zero that lies within the table
 unfoldable pub longRun : List ℕ → Header → ℕ → Name
 longRun f h offset =
-    pick (leb 4 offset && ltb (run f (stringTable h + offset) (stringLength f h - offset)) (stringLength f h - offset))
+    pick (leb LENGTH-SIZE offset && ltb (run f (stringTable h + offset) (stringLength f h - offset)) (stringLength f h - offset))
     (Good (stringTable h + offset) (run f (stringTable h + offset) (stringLength f h - offset)))
     Bad
 
@@ -59,17 +59,17 @@ symbolNameAt f h at = checked goodSymbolName f (symbolRun f h at)
 
 -- of section i and symbol j
 abbrev pub sectionName : List ℕ → Header → ℕ → Name
-sectionName f h i = sectionNameAt f h (sectionAt h i)
+sectionName f h i = sectionNameAt f h (sectionHeaderAt h i)
 
 abbrev pub symbolName : List ℕ → Header → ℕ → Name
-symbolName f h j = symbolNameAt f h (symbolAt h j)
+symbolName f h j = symbolNameAt f h (symbolRecordAt h j)
 
 -- the bytes where it stands, whether they obey the rule or not: what names are compared by once 6 has passed
 abbrev pub sectionText : List ℕ → Header → ℕ → List ℕ
-sectionText f h i = nameBytes f (sectionRun f h (sectionAt h i))
+sectionText f h i = nameBytes f (sectionRun f h (sectionHeaderAt h i))
 
 abbrev pub symbolText : List ℕ → Header → ℕ → List ℕ
-symbolText f h j = nameBytes f (symbolRun f h (symbolAt h j))
+symbolText f h j = nameBytes f (symbolRun f h (symbolRecordAt h j))
 
 -- 6 is not given for it
 abbrev pub isGood : Name → Bool

@@ -13,7 +13,7 @@ use Rattle.util.specs.Pick.{pick, yes-no, le-or-lt, and-left, and-right}
 use Rattle.util.specs.Prefix.{all-at}
 use Rattle.le.specs.Le.{get, part, length-part, part-none}
 use Rattle.object.specs.declared.Header.{Header}
-use Rattle.object.specs.Format.{NAME-SIZE, sectionAt, symbolAt, stringTable, stringLength}
+use Rattle.object.specs.Format.{NAME-SIZE, sectionHeaderAt, symbolRecordAt, stringTable, stringLength}
 use Rattle.names.specs.declared.Name.{Name}
 use Rattle.names.specs.declared.Name.the-variants.{Good, Bad}
 use Rattle.names.specs.Bytes.{run, visible, allVisible, goodSectionName, goodSymbolName, allDigits, decimal}
@@ -134,17 +134,17 @@ symbol-rule s e = and-right (not (eqb (length s) 0)) (allVisible s) e
 
 -- every byte of a section's name is 0x21 to 0x7E
 pub section-name-visible : (f : List ℕ) (h : Header) (i k : ℕ) → k < length (nameBytes f (sectionName f h i)) → Visible (getD (nameBytes f (sectionName f h i)) k 0)
-section-name-visible f h i k l = bytes-visible goodSectionName section-rule f k (sectionRun f h (sectionAt h i)) (sectionName f h i) refl l
+section-name-visible f h i k l = bytes-visible goodSectionName section-rule f k (sectionRun f h (sectionHeaderAt h i)) (sectionName f h i) refl l
 
 -- every byte of a symbol's name is 0x21 to 0x7E
 pub symbol-name-visible : (f : List ℕ) (h : Header) (j k : ℕ) → k < length (nameBytes f (symbolName f h j)) → Visible (getD (nameBytes f (symbolName f h j)) k 0)
-symbol-name-visible f h j k l = bytes-visible goodSymbolName symbol-rule f k (symbolRun f h (symbolAt h j)) (symbolName f h j) refl l
+symbol-name-visible f h j k l = bytes-visible goodSymbolName symbol-rule f k (symbolRun f h (symbolRecordAt h j)) (symbolName f h j) refl l
 
 -- a symbol's good name is not empty
 pub symbol-name-some : (f : List ℕ) (h : Header) (j at n : ℕ) → symbolName f h j ≡ Good at n → 0 < length (nameBytes f (Good at n))
 unfolding nameBytes goodSymbolName
 symbol-name-some f h j at n e =
-    let g = checked-good goodSymbolName f (symbolRun f h (symbolAt h j)) at n e in
+    let g = checked-good goodSymbolName f (symbolRun f h (symbolRecordAt h j)) at n e in
     let z : length (part f at n) ≡ 0 → ⊥ = eqb-false _ _ (not-true _ (and-left (not (eqb (length (part f at n)) 0)) (allVisible (part f at n)) g)) in
     omega arith
 

@@ -23,11 +23,6 @@ ghost use Rattle.names.specs.Name.{
   symbolText,
 };
 
-// The bytes of a name field, and the string table's own length field, behind which strings stand.
-const NAME_SIZE: usize = 8;
-
-const FIRST_STRING: usize = 4;
-
 const SLASH: u8 = 0x2F;
 
 // The part of the string table at `offset`, up to a zero that lies within the table.
@@ -36,7 +31,7 @@ fn long_run(f: &[u8], h: Header, offset: u64) -> Name
 {
     let length = object::string_length(f, h) as usize;
     let from = offset as usize;
-    if from < FIRST_STRING {
+    if from < object::LENGTH_SIZE {
         return Name::Bad;
     }
     if length <= from {
@@ -63,7 +58,7 @@ fn symbol_run(f: &[u8], h: Header, at: usize) -> Name
     if empty {
         Name::Bad
     } else {
-        Name::Good(at, run(f, at, NAME_SIZE))
+        Name::Good(at, run(f, at, object::NAME_SIZE))
     }
 }
 
@@ -72,7 +67,7 @@ fn slash_run(f: &[u8], h: Header, at: usize) -> Name
     requires { ⌜ at < 2 ^ 38 ⌝ }
     ensures { λ r. ⌜ r ≡ slashRun (now (f .entry)) h at ⌝ }
 {
-    let n = run(f, at, NAME_SIZE);
+    let n = run(f, at, object::NAME_SIZE);
     if n < 2 {
         return Name::Bad;
     }
@@ -92,7 +87,7 @@ fn section_run(f: &[u8], h: Header, at: usize) -> Name
     if slash {
         slash_run(f, h, at)
     } else {
-        Name::Good(at, run(f, at, NAME_SIZE))
+        Name::Good(at, run(f, at, object::NAME_SIZE))
     }
 }
 
@@ -126,16 +121,18 @@ fn checked_symbol(f: &[u8], name: Name) -> Name
     }
 }
 
+// The name of section i.
 pub fn section_name(f: &[u8], h: Header, i: u32) -> Name
     ensures { λ r. ⌜ r ≡ sectionName (now (f .entry)) h i ⌝ }
 {
-    checked_section(f, section_run(f, h, object::section_at(h, i)))
+    checked_section(f, section_run(f, h, object::section_header_at(h, i)))
 }
 
+// The name of symbol j.
 pub fn symbol_name(f: &[u8], h: Header, j: u32) -> Name
     ensures { λ r. ⌜ r ≡ symbolName (now (f .entry)) h j ⌝ }
 {
-    checked_symbol(f, symbol_run(f, h, object::symbol_at(h, j)))
+    checked_symbol(f, symbol_run(f, h, object::symbol_record_at(h, j)))
 }
 
 // The bytes of a name: that part of the file; of a bad one none.
@@ -148,6 +145,7 @@ pub fn name_bytes(f: &[u8], name: Name) -> &[u8]
     }
 }
 
+// 6 is not given for it.
 pub fn is_good(name: Name) -> bool
     ensures { λ r. ⌜ r ≡ isGood name ⌝ }
 {
@@ -161,11 +159,12 @@ pub fn is_good(name: Name) -> bool
 pub fn section_text(f: &[u8], h: Header, i: u32) -> &[u8]
     ensures { λ r. ⌜ now r ≡ sectionText (now (f .entry)) h i ⌝ }
 {
-    name_bytes(f, section_run(f, h, object::section_at(h, i)))
+    name_bytes(f, section_run(f, h, object::section_header_at(h, i)))
 }
 
+// Of symbol j.
 pub fn symbol_text(f: &[u8], h: Header, j: u32) -> &[u8]
     ensures { λ r. ⌜ now r ≡ symbolText (now (f .entry)) h j ⌝ }
 {
-    name_bytes(f, symbol_run(f, h, object::symbol_at(h, j)))
+    name_bytes(f, symbol_run(f, h, object::symbol_record_at(h, j)))
 }

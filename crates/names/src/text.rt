@@ -36,8 +36,7 @@ pub(crate) fn run(f: &[u8], at: usize, n: usize) -> usize
 fn is_visible(b: u8) -> bool
     ensures { λ r. ⌜ r ≡ visible b ⌝ }
 {
-    let low = 0x21 <= b;
-    if low { b <= 0x7E } else { false }
+    util::both(0x21 <= b, b <= 0x7E)
 }
 
 fn all_visible(s: &[u8]) -> bool
@@ -54,24 +53,24 @@ fn all_visible(s: &[u8]) -> bool
     true
 }
 
+// The rule for a section's name, which may be empty.
 pub fn good_section_name(s: &[u8]) -> bool
     ensures { λ r. ⌜ r ≡ goodSectionName (now (s .entry)) ⌝ }
 {
     all_visible(s)
 }
 
+// The rule for a symbol's name, which may not.
 pub fn good_symbol_name(s: &[u8]) -> bool
     ensures { λ r. ⌜ r ≡ goodSymbolName (now (s .entry)) ⌝ }
 {
-    let none = s.len() == 0;
-    if none { false } else { all_visible(s) }
+    util::both(s.len() != 0, all_visible(s))
 }
 
 fn is_digit(b: u8) -> bool
     ensures { λ r. ⌜ r ≡ isDigit b ⌝ }
 {
-    let low = 0x30 <= b;
-    if low { b <= 0x39 } else { false }
+    util::both(0x30 <= b, b <= 0x39)
 }
 
 pub(crate) fn all_digits(s: &[u8]) -> bool
@@ -134,6 +133,7 @@ pub fn compare(a: &[u8], b: &[u8]) -> Order
     }
 }
 
+// Two names are the same.
 pub fn same(a: &[u8], b: &[u8]) -> bool
     ensures { λ r. ⌜ r ≡ sameBytes (now (a .entry)) (now (b .entry)) ⌝ }
 {

@@ -1,10 +1,9 @@
 -- The ways through the readers. Assumes nothing.
 use mathlib.Core.Path.{_≡_, refl, _∙_}
-use mathlib.Core.Bool.{Bool, true, false}
+use mathlib.Core.Bool.{Bool, true, false, _&&_}
 use mathlib.Core.List.{List, [], _∷_}
 use Prim.Native.Nat.{ℕ, _+_, _-_, _/_, _%_, _^_, _≤_, _<_}
 use native.Mathlib.Omega.{arith}
-use native.Mathlib.Numerals.{add-one}
 use mathlib.Core.Logic.{⊎-elim}
 use lib.Dec.{eqb}
 use lib.ListN.{getD}
@@ -12,13 +11,19 @@ use borrow.Author.Tests.{eq-eqb, ne-eqb}
 use Rattle.util.specs.Pick.{pick, le-or-lt}
 use Rattle.util.specs.Align.{roundUp, align-exact, up-one, up-near}
 use Rattle.le.specs.Le.{get, splice, fill-none, fill-again, fill-end}
-use Rattle.kinds.specs.Flags.{alignOf}
+use Rattle.kinds.specs.Flags.{LNK-NRELOC-OVFL, alignOf}
 use Rattle.object.specs.declared.Header.{Header}
-use Rattle.object.specs.Format.{headerOf, stringTable, stringLength, rawSize, rawPointer, relocationPointer, relocationField, flags, auxiliaries}
-use Rattle.object.specs.Section.{fileEnd, rangeLength, extended, relocationRecords, relocationCount, relocationStart, uninitialized}
-use Rattle.object.specs.Symbol.{owed, primary, primaries}
+use Rattle.object.specs.Format.{RELOCATION-SIZE, HEADER-SIZE, headerOf, stringTable, stringLength, rawSize, rawPointer, relocationPointer, relocationField, flags, auxiliaries}
+use Rattle.object.specs.Section.{OVERFLOW-COUNT, fileEnd, rangeLength, extended, relocationRecords, relocationCount, relocationStart, uninitialized}
+use Rattle.object.specs.Symbol.{leftAfter, auxiliariesLeft, primary, primaries, isOwn}
+use Rattle.object.specs.SymbolLaws.{left-none, left-again, left-end}
 
 -- ---- the header
+pub header-is : (f : List ℕ) (m n o s c : ℕ) → m ≡ get 2 f 0 → n ≡ get 2 f 2 → o ≡ get 2 f 16 → s ≡ get 4 f 8 → c ≡ headerOf f .symbols
+    → record { machine = m; sections = n; «section_table» = HEADER-SIZE + o; «symbol_table» = s; symbols = c } ≡ headerOf f
+unfolding headerOf
+header-is f m n o s c a b d e g = rw (a, b, d, e, g)
+
 module _ (f : List ℕ) where
   pub count-none : (r : ℕ) → r ≡ get 4 f 8 → eqb r 0 ≡ true → 0 ≡ headerOf f .symbols
   unfolding headerOf pick
@@ -40,48 +45,41 @@ module _ (f : List ℕ) (h : Header) where
 pub ruleset headers = (count-none, count-some, strings-none, strings-some)
 
 -- ---- flags
-module _ (f : List ℕ) (h : Header) (i x : ℕ) where
-  pub extended-yes : (n : ℕ) → x ≡ flags f h i → eqb (x / 0x1000000 % 2) 1 ≡ true → n ≡ relocationField f h i → eqb n 65535 ≡ extended f h i
-  unfolding extended
-  extended-yes n e t q = rw (q, ← e, t)
-
-  pub extended-no : x ≡ flags f h i → eqb (x / 0x1000000 % 2) 1 ≡ false → false ≡ extended f h i
-  unfolding extended
-  extended-no e t = rw (← e, t)
-
-pub ruleset flag-ways = (extended-yes, extended-no)
+pub extended-is : (f : List ℕ) (h : Header) (i x n : ℕ) {r : Bool} → r ≡ (eqb (x / LNK-NRELOC-OVFL % 2) 1 && eqb n OVERFLOW-COUNT) → x ≡ flags f h i → n ≡ relocationField f h i → r ≡ extended f h i
+unfolding extended
+extended-is f h i x n e q p = rw (← q, ← p) e
 
 -- ---- auxiliary records, one record further
-module _ (f : List ℕ) (h : Header) (j : ℕ) where
-  pub owed-own : (left r : ℕ) → left ≡ owed f h j → left ≡ 0 → r ≡ auxiliaries f h j → r ≡ owed f h (j + 1)
-  unfolding owed pick
-  owed-own left r e z q = rw (add-one, eq-eqb (owed f h j) 0 (cc), q)
+module _ (f : List ℕ) (h : Header) (j left : ℕ) where
+  pub after-own : (n : ℕ) → left ≡ 0 → n ≡ auxiliaries f h j → n ≡ leftAfter f h j left
+  unfolding leftAfter pick
+  after-own n z e = rw z e
 
-  pub owed-less : (left : ℕ) → left ≡ owed f h j → (left ≡ 0 → ⊥) → left - 1 ≡ owed f h (j + 1)
-  unfolding owed pick
-  owed-less left e n = rw (add-one, ne-eqb (owed f h j) 0 (rw e at n), e)
+  pub after-less : (left ≡ 0 → ⊥) → left - 1 ≡ leftAfter f h j left
+  unfolding leftAfter pick
+  after-less n = rw (ne-eqb left 0 n)
 
-pub owed-none : (f : List ℕ) (h : Header) → 0 ≡ owed f h 0
-unfolding owed
-owed-none f h = refl
+-- the byte of record j, and the bytes with j records done
+pub mark-own : (left : ℕ) → left ≡ 0 → _≡_ {A = ℕ} 1 (pick (eqb left 0) 1 0)
+unfolding pick
+mark-own left z = rw z
 
-pub owed-end : (f : List ℕ) (h : Header) (j n m left : ℕ) → left ≡ owed f h j → j ≤ n → n ≤ j → n ≡ m → left ≡ owed f h m
-owed-end f h j n m left e a b q = let z : j ≡ n = omega arith in cc
+pub mark-less : (left : ℕ) → (left ≡ 0 → ⊥) → _≡_ {A = ℕ} 0 (pick (eqb left 0) 1 0)
+unfolding pick
+mark-less left n = rw (ne-eqb left 0 n)
 
--- the map with j records done
-module _ (f : List ℕ) (h : Header) (l b b′ : List ℕ) (j : ℕ) where
-  map-next : (x : ℕ) → b ≡ splice l 0 (primaries f h j) → b′ ≡ splice b j (x ∷ []) → x ≡ pick (primary f h j) 1 0 → b′ ≡ splice l 0 (primaries f h (j + 1))
-  map-next x e d p = fill-again (λ k. pick (primary f h k) 1 0) l b b′ j x e p d
+pub own-again : (f : List ℕ) (h : Header) (l b b′ : List ℕ) (j left x : ℕ) → b ≡ splice l 0 (primaries f h j) → left ≡ auxiliariesLeft f h j → x ≡ pick (eqb left 0) 1 0
+    → b′ ≡ splice b j (x ∷ []) → b′ ≡ splice l 0 (primaries f h (j + 1))
+unfolding primary
+own-again f h l b b′ j left x e q m d = fill-again (λ k. pick (primary f h k) 1 0) l b b′ j x e (rw (← q) m) d
 
-  pub map-own : (left : ℕ) → b ≡ splice l 0 (primaries f h j) → left ≡ owed f h j → left ≡ 0 → b′ ≡ splice b j (1 ∷ []) → b′ ≡ splice l 0 (primaries f h (j + 1))
-  unfolding primary pick
-  map-own left e q z d = map-next 1 e d (rw (eq-eqb (owed f h j) 0 (cc)))
+-- a record is a symbol's own by its byte
+pub own-is : (own : List ℕ) (j b : ℕ) → b ≡ getD own j 0 → eqb b 1 ≡ isOwn own j
+own-is own j b q = rw q
 
-  pub map-auxiliary : (left : ℕ) → b ≡ splice l 0 (primaries f h j) → left ≡ owed f h j → (left ≡ 0 → ⊥) → b′ ≡ splice b j (0 ∷ []) → b′ ≡ splice l 0 (primaries f h (j + 1))
-  unfolding primary pick
-  map-auxiliary left e q n d = map-next 0 e d (rw (ne-eqb (owed f h j) 0 (rw q at n)))
+pub ruleset auxiliary-ways = (after-own, after-less, mark-own, mark-less, own-is)
 
-pub ruleset auxiliary-loop = (owed-own, owed-less, owed-none, owed-end, fill-none, map-own, map-auxiliary, fill-end)
+pub ruleset auxiliary-loop = (left-none, left-again, left-end, fill-none, own-again, fill-end)
 
 -- the size in the image is small
 pub range-small : (size n r : ℕ) → size < 2 ^ 32 → n < 2 ^ 32 → r ≡ roundUp size n % 2 ^ 64 → r < 2 ^ 33
@@ -127,7 +125,7 @@ module _ (f : List ℕ) (h : Header) (i : ℕ) where
     unfolding relocationCount pick
     count-plain n a t = rw (← is, t) a
 
-    pub start-extended : (p : ℕ) → e ≡ true → p ≡ relocationPointer f h i → p + 10 ≡ relocationStart f h i
+    pub start-extended : (p : ℕ) → e ≡ true → p ≡ relocationPointer f h i → p + RELOCATION-SIZE ≡ relocationStart f h i
     unfolding relocationStart pick
     start-extended p t a = rw (← is, t, a)
 

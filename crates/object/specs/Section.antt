@@ -10,8 +10,13 @@ use Rattle.kinds.specs.Flags.{hasFlag, LNK-NRELOC-OVFL, loadedBy, uninitialized
 use Rattle.object.specs.declared.Header.{Header}
 use Rattle.object.specs.Format.{RELOCATION-SIZE, rawSize, rawPointer, relocationPointer, relocationField, flags}
 
+-- what the count field of a record holds where the count does not fit it
+abbrev pub OVERFLOW-COUNT : ℕ
+OVERFLOW-COUNT = 65535
+
 -- ---- of section i
 module _ (f : List ℕ) (h : Header) (i : ℕ) where
+  -- it is loaded; it has no bytes in the file
   abbrev pub loaded : Bool
   loaded = loadedBy (flags f h i)
 
@@ -29,13 +34,14 @@ module _ (f : List ℕ) (h : Header) (i : ℕ) where
   unfoldable pub rangeLength : ℕ
   rangeLength = roundUp (rawSize f h i) (alignOf (alignCode (flags f h i)))
 
+  -- read 1, write 2, execute 4
   abbrev pub permissions : ℕ
   permissions = permissionsBy (flags f h i)
 
-  -- ---- its relocations. With the overflow flag and a count of 65,535 the first record's address field is the real count, that record
+  -- ---- its relocations. With the overflow flag and the overflow count the first record's address field is the real count, that record
   -- included; record 0 then follows it.
   unfoldable pub extended : Bool
-  extended = hasFlag LNK-NRELOC-OVFL (flags f h i) && eqb (relocationField f h i) 65535
+  extended = hasFlag LNK-NRELOC-OVFL (flags f h i) && eqb (relocationField f h i) OVERFLOW-COUNT
 
   -- how many records stand at the relocation pointer
   unfoldable pub relocationRecords : ℕ

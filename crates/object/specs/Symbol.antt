@@ -1,9 +1,10 @@
 -- What a symbol record says (01, "Records"; PE/COFF, "COFF Symbol Table").
-use mathlib.Core.Bool.{Bool}
+use mathlib.Core.Bool.{Bool, _&&_}
 use mathlib.Core.List.{List}
 use Prim.Native.Nat.{ℕ, zero, suc, _-_}
 use lib.IntN.{ℤ}
-use lib.Dec.{eqb}
+use lib.Dec.{eqb, ltb}
+use lib.ListN.{getD}
 use mir.Syntax.{w16}
 use mir.Val.{toZ}
 use Rattle.util.specs.Pick.{pick}
@@ -29,15 +30,27 @@ abbrev pub listedValue : List ℕ → Header → ℕ → ℕ
 listedValue f h j = listedBy (symbolClass f h j) (symbolValue f h j)
 
 -- ---- auxiliary records
--- how many of the records from j on belong to a symbol before j
-unfoldable pub owed : List ℕ → Header → ℕ → ℕ
-owed f h zero = 0
-owed f h (suc j) = pick (eqb (owed f h j) 0) (auxiliaries f h j) (owed f h j - 1)
+-- one record further, if `left` auxiliary records stand from j on: a symbol's own record has its auxiliary ones behind it
+unfoldable pub leftAfter : List ℕ → Header → ℕ → ℕ → ℕ
+leftAfter f h j left = pick (eqb left 0) (auxiliaries f h j) (left - 1)
+
+-- how many of the records from j on are auxiliary ones of a symbol before j
+unfoldable pub auxiliariesLeft : List ℕ → Header → ℕ → ℕ
+auxiliariesLeft f h zero = 0
+auxiliariesLeft f h (suc j) = leftAfter f h j (auxiliariesLeft f h j)
 
 -- record j is a symbol's own, and no auxiliary record
 unfoldable pub primary : List ℕ → Header → ℕ → Bool
-primary f h j = eqb (owed f h j) 0
+primary f h j = eqb (auxiliariesLeft f h j) 0
 
--- a byte a record: 1 for a symbol's own, 0 for an auxiliary one
+-- number j is a symbol's: its own record; past the records there is none
+unfoldable pub isSymbol : List ℕ → Header → ℕ → Bool
+isSymbol f h j = ltb j (h .symbols) && primary f h j
+
+-- what is kept of it: a byte a record, 1 for a symbol's own, 0 for an auxiliary one
 abbrev pub primaries : List ℕ → Header → ℕ → List ℕ
 primaries f h n = listTo (λ j. pick (primary f h j) 1 0) n
+
+-- number j is a symbol's, by those bytes (`own-kept`)
+abbrev pub isOwn : List ℕ → ℕ → Bool
+isOwn own j = eqb (getD own j 0) 1

@@ -1,64 +1,82 @@
 -- Symbols' own records and the runs of auxiliary records behind them share out the numbers: each number is one or the other, and no two
 -- runs meet (01, "Records").
-use mathlib.Core.Path.{_≡_, refl}
-use mathlib.Core.Bool.{true, false}
+use mathlib.Core.Path.{_≡_, refl, fun-ext}
+use mathlib.Core.Bool.{Bool, true, false}
 use mathlib.Core.List.{List}
 use mathlib.Core.Logic.{⊎-elim}
 use Prim.Native.Nat.{ℕ, zero, suc, _+_, _-_, _≤_, _<_}
 use native.Mathlib.Omega.{arith}
+use native.Mathlib.Numerals.{add-one}
 use lib.Dec.{eqb}
 use lib.ListN.{getD}
-use borrow.Author.Tests.{eq-eqb, ne-eqb, eqb-true, eqb-false}
+use borrow.Author.Tests.{eq-eqb, ne-eqb, eqb-true, eqb-false, lt-ltb, le-ltb}
 use Rattle.util.specs.Pick.{pick, yes-no, le-or-lt}
-use Rattle.util.specs.Prefix.{list-at}
+use Rattle.util.specs.Prefix.{list-at, list-past}
 use Rattle.object.specs.declared.Header.{Header}
 use Rattle.object.specs.Format.{auxiliaries}
-use Rattle.object.specs.Symbol.{owed, primary, primaries}
+use Rattle.object.specs.Symbol.{leftAfter, auxiliariesLeft, primary, primaries, isOwn, isSymbol}
+
+-- ---- as a loop counts what is left: at the first record, one record further, and at the end
+pub left-none : (f : List ℕ) (h : Header) → 0 ≡ auxiliariesLeft f h 0
+unfolding auxiliariesLeft
+left-none f h = refl
+
+pub left-again : (f : List ℕ) (h : Header) (j left r : ℕ) → left ≡ auxiliariesLeft f h j → r ≡ leftAfter f h j left → r ≡ auxiliariesLeft f h (j + 1)
+unfolding auxiliariesLeft
+left-again f h j left r e p = rw (add-one, ← e) p
+
+pub left-end : (f : List ℕ) (h : Header) (j n m left : ℕ) → left ≡ auxiliariesLeft f h j → j ≤ n → n ≤ j → n ≡ m → left ≡ auxiliariesLeft f h m
+left-end f h j n m left e a b q = let z : j ≡ n = omega arith in cc
+
+byte-is : (b : Bool) → eqb (pick b 1 0) 1 ≡ b
+unfolding pick
+byte-is true = refl
+byte-is false = refl
 
 module _ (f : List ℕ) (h : Header) where
-  -- ---- what is owed, one record further
-  owed-own : (j : ℕ) → owed f h j ≡ 0 → owed f h (suc j) ≡ auxiliaries f h j
-  unfolding owed pick
-  owed-own j z = rw (eq-eqb (owed f h j) 0 z)
+  -- ---- what is left, one record further
+  left-own : (j : ℕ) → auxiliariesLeft f h j ≡ 0 → auxiliariesLeft f h (suc j) ≡ auxiliaries f h j
+  unfolding auxiliariesLeft leftAfter pick
+  left-own j z = rw (eq-eqb (auxiliariesLeft f h j) 0 z)
 
-  owed-less : (j : ℕ) → (owed f h j ≡ 0 → ⊥) → owed f h (suc j) ≡ owed f h j - 1
-  unfolding owed pick
-  owed-less j n = rw (ne-eqb (owed f h j) 0 n)
+  left-less : (j : ℕ) → (auxiliariesLeft f h j ≡ 0 → ⊥) → auxiliariesLeft f h (suc j) ≡ auxiliariesLeft f h j - 1
+  unfolding auxiliariesLeft leftAfter pick
+  left-less j n = rw (ne-eqb (auxiliariesLeft f h j) 0 n)
 
   -- and k records into a symbol's run
-  owed-in : (j k : ℕ) → owed f h j ≡ 0 → k ≤ auxiliaries f h j → owed f h (j + suc k) ≡ auxiliaries f h j - k
-  owed-in j zero z l = let e : j + 1 ≡ suc j = omega arith in let r = owed-own j z in rw e (omega arith)
-  owed-in j (suc k) z l =
+  left-in : (j k : ℕ) → auxiliariesLeft f h j ≡ 0 → k ≤ auxiliaries f h j → auxiliariesLeft f h (j + suc k) ≡ auxiliaries f h j - k
+  left-in j zero z l = let e : j + 1 ≡ suc j = omega arith in let r = left-own j z in rw e (omega arith)
+  left-in j (suc k) z l =
       let e : j + suc (suc k) ≡ suc (j + suc k) = omega arith in
-      let r = owed-in j k z (omega arith) in
-      let d = owed-less (j + suc k) (λ n. omega arith) in
+      let r = left-in j k z (omega arith) in
+      let d = left-less (j + suc k) (λ n. omega arith) in
       rw e (omega arith)
 
-  is-primary : (j : ℕ) → owed f h j ≡ 0 → primary f h j ≡ true
+  is-primary : (j : ℕ) → auxiliariesLeft f h j ≡ 0 → primary f h j ≡ true
   unfolding primary
-  is-primary j z = eq-eqb (owed f h j) 0 z
+  is-primary j z = eq-eqb (auxiliariesLeft f h j) 0 z
 
-  owes-none : (j : ℕ) → primary f h j ≡ true → owed f h j ≡ 0
+  none-left : (j : ℕ) → primary f h j ≡ true → auxiliariesLeft f h j ≡ 0
   unfolding primary
-  owes-none j p = eqb-true (owed f h j) 0 p
+  none-left j p = eqb-true (auxiliariesLeft f h j) 0 p
 
   -- ---- the numbers are shared out
   -- record 0 is a symbol's own
   pub primary-first : primary f h 0 ≡ true
-  unfolding primary owed
+  unfolding primary auxiliariesLeft
   primary-first = refl
 
   -- the records that a symbol has behind it are auxiliary
   pub auxiliary-run : (j k : ℕ) → primary f h j ≡ true → 1 ≤ k → k ≤ auxiliaries f h j → primary f h (j + k) ≡ false
   unfolding primary
   auxiliary-run j zero p a b = absurd (omega arith)
-  auxiliary-run j (suc k) p a b = let r = owed-in j k (owes-none j p) (omega arith) in ne-eqb (owed f h (j + suc k)) 0 (λ z. omega arith)
+  auxiliary-run j (suc k) p a b = let r = left-in j k (none-left j p) (omega arith) in ne-eqb (auxiliariesLeft f h (j + suc k)) 0 (λ z. omega arith)
 
   -- the record behind them is the next symbol's own
   pub primary-next : (j : ℕ) → primary f h j ≡ true → primary f h (j + auxiliaries f h j + 1) ≡ true
   primary-next j p =
       let e : j + auxiliaries f h j + 1 ≡ j + suc (auxiliaries f h j) = omega arith in
-      let r = owed-in j (auxiliaries f h j) (owes-none j p) (omega arith) in
+      let r = left-in j (auxiliaries f h j) (none-left j p) (omega arith) in
       is-primary (j + auxiliaries f h j + 1) (rw e (omega arith))
 
   -- a symbol before record j whose run reaches as far as j
@@ -68,35 +86,35 @@ module _ (f : List ℕ) (h : Header) where
     pub before : own < j
     pub reaches : j ≤ own + auxiliaries f h own
 
-  -- the last symbol before record j, and what its run still owes there
+  -- the last symbol before record j, and what is left of its run there
   record Last (j : ℕ) : Type 0 where
     pub own : ℕ
-    pub none : owed f h own ≡ 0
+    pub none : auxiliariesLeft f h own ≡ 0
     pub before : own < j
-    pub owes : j + owed f h j ≡ own + auxiliaries f h own + 1
+    pub rest : j + auxiliariesLeft f h j ≡ own + auxiliaries f h own + 1
 
-  last : (j : ℕ) → (owed f h j ≡ 0 → ⊥) → Last j
-  unfolding owed
+  last : (j : ℕ) → (auxiliariesLeft f h j ≡ 0 → ⊥) → Last j
+  unfolding auxiliariesLeft
   last zero n = absurd (n refl)
   last (suc j) n =
       ⊎-elim
-      (λ e. let z = eqb-true (owed f h j) 0 e in let r = owed-own j z in record { own = j; none = z; before = omega arith; owes = omega arith })
+      (λ e. let z = eqb-true (auxiliariesLeft f h j) 0 e in let r = left-own j z in record { own = j; none = z; before = omega arith; rest = omega arith })
       (λ e.
-      let z = eqb-false (owed f h j) 0 e in
-      let r = owed-less j z in
+      let z = eqb-false (auxiliariesLeft f h j) 0 e in
+      let r = left-less j z in
       let l = last j z in
       let b = l .before in
-      let o = l .owes in
-      record { own = l .own; none = l .none; before = omega arith; owes = omega arith })
-      (yes-no (eqb (owed f h j) 0))
+      let o = l .rest in
+      record { own = l .own; none = l .none; before = omega arith; rest = omega arith })
+      (yes-no (eqb (auxiliariesLeft f h j) 0))
 
   -- every record that is no symbol's own has such an owner
   pub auxiliary-owner : (j : ℕ) → primary f h j ≡ false → Owner j
   unfolding primary
   auxiliary-owner j p =
-      let n = eqb-false (owed f h j) 0 p in
+      let n = eqb-false (auxiliariesLeft f h j) 0 p in
       let l = last j n in
-      let o = l .owes in
+      let o = l .rest in
       record { own = l .own; symbol = is-primary (l .own) (l .none); before = l .before; reaches = omega arith }
 
   -- a run ends before every symbol that follows, so that a record has one owner
@@ -110,7 +128,7 @@ module _ (f : List ℕ) (h : Header) where
       (λ r. r)
       (le-or-lt k (j + auxiliaries f h j))
 
-  -- ---- the map of primaries
+  -- ---- the bytes of primaries
   -- its byte j says whether record j is a symbol's own
   primaries-at : (n j : ℕ) → j < n → getD (primaries f h n) j 0 ≡ pick (primary f h j) 1 0
   primaries-at n j l = list-at (λ k. pick (primary f h k) 1 0) 0 n j l
@@ -129,3 +147,17 @@ module _ (f : List ℕ) (h : Header) where
       let z : getD (primaries f h n) j 0 ≡ 0 = rw (primaries-at n j l, p) in
       absurd (omega arith))
       (yes-no (primary f h j))
+
+  -- so the bytes say which numbers are symbols'
+  own-in : (n j : ℕ) → j < n → isOwn (primaries f h n) j ≡ primary f h j
+  unfolding pick
+  own-in n j l = rw (primaries-at n j l) (byte-is (primary f h j))
+
+  pub own-kept : isOwn (primaries f h (h .symbols)) ≡ isSymbol f h
+  unfolding isSymbol
+  own-kept =
+      fun-ext
+      (λ j.
+      ⊎-elim (λ q. rw (le-ltb j (h .symbols) q, list-past {A = ℕ} (λ k. pick (primary f h k) 1 0) 0 (h .symbols) j q))
+      (λ q. rw (lt-ltb j (h .symbols) q) (own-in (h .symbols) j q))
+      (le-or-lt (h .symbols) j))

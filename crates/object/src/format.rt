@@ -4,17 +4,23 @@ ghost use mathlib.Core.Path.{_≡_};
 ghost use Prim.Native.Nat.{_+_, _*_, _^_, _<_};
 ghost use lib.ListN.{getD};
 ghost use Rattle.le.specs.Le.{get};
-ghost use Rattle.object.specs.Format.{headerOf, sectionAt, symbolAt, stringTable, stringLength};
+ghost use Rattle.object.specs.Format.{headerOf, sectionHeaderAt, symbolRecordAt, stringTable, stringLength};
 
 // Record sizes.
-pub(crate) const HEADER_SIZE: u32 = 20;
+pub const HEADER_SIZE: u32 = 20;
 
 pub(crate) const SECTION_SIZE: usize = 40;
 
 pub(crate) const SYMBOL_SIZE: usize = 18;
 
-pub(crate) const RELOCATION_SIZE: usize = 10;
+pub const RELOCATION_SIZE: usize = 10;
 
+// The bytes of a name field, and of the string table's own length, behind which strings stand.
+pub const NAME_SIZE: usize = 8;
+
+pub const LENGTH_SIZE: usize = 4;
+
+// The file header.
 pub fn read_header(f: &[u8]) -> Header
     ensures { λ r. ⌜ r ≡ headerOf (now (f .entry)) ⌝ }
 {
@@ -37,46 +43,47 @@ fn symbol_count(f: &[u8]) -> u32
 
 // The number at `k` of section record i, of 32 and of 16 bits.
 pub(crate) fn section_u32(f: &[u8], h: Header, i: u32, k: u8) -> u32
-    ensures { λ r. ⌜ r ≡ get 4 (now (f .entry)) (sectionAt h i + k) ⌝ }
+    ensures { λ r. ⌜ r ≡ get 4 (now (f .entry)) (sectionHeaderAt h i + k) ⌝ }
 {
-    le::u32_at(f, section_at(h, i) + k as usize)
+    le::u32_at(f, section_header_at(h, i) + k as usize)
 }
 
 pub(crate) fn section_u16(f: &[u8], h: Header, i: u32, k: u8) -> u16
-    ensures { λ r. ⌜ r ≡ get 2 (now (f .entry)) (sectionAt h i + k) ⌝ }
+    ensures { λ r. ⌜ r ≡ get 2 (now (f .entry)) (sectionHeaderAt h i + k) ⌝ }
 {
-    le::u16_at(f, section_at(h, i) + k as usize)
+    le::u16_at(f, section_header_at(h, i) + k as usize)
 }
 
 // The number at `k` of symbol record j, of 32, 16 and 8 bits.
 pub(crate) fn symbol_u32(f: &[u8], h: Header, j: u32, k: u8) -> u32
-    ensures { λ r. ⌜ r ≡ get 4 (now (f .entry)) (symbolAt h j + k) ⌝ }
+    ensures { λ r. ⌜ r ≡ get 4 (now (f .entry)) (symbolRecordAt h j + k) ⌝ }
 {
-    le::u32_at(f, symbol_at(h, j) + k as usize)
+    le::u32_at(f, symbol_record_at(h, j) + k as usize)
 }
 
 pub(crate) fn symbol_u16(f: &[u8], h: Header, j: u32, k: u8) -> u16
-    ensures { λ r. ⌜ r ≡ get 2 (now (f .entry)) (symbolAt h j + k) ⌝ }
+    ensures { λ r. ⌜ r ≡ get 2 (now (f .entry)) (symbolRecordAt h j + k) ⌝ }
 {
-    le::u16_at(f, symbol_at(h, j) + k as usize)
+    le::u16_at(f, symbol_record_at(h, j) + k as usize)
 }
 
 pub(crate) fn symbol_u8(f: &[u8], h: Header, j: u32, k: u8) -> u8
-    ensures { λ r. ⌜ r ≡ getD (now (f .entry)) (symbolAt h j + k) 0 ⌝ }
+    ensures { λ r. ⌜ r ≡ getD (now (f .entry)) (symbolRecordAt h j + k) 0 ⌝ }
 {
-    le::byte_at(f, symbol_at(h, j) + k as usize)
+    le::byte_at(f, symbol_record_at(h, j) + k as usize)
 }
 
 // Where section record i and symbol record j start.
-pub fn section_at(h: Header, i: u32) -> usize
-    ensures { λ r. ⌜ r ≡ sectionAt h i ⌝ }
+pub fn section_header_at(h: Header, i: u32) -> usize
+    ensures { λ r. ⌜ r ≡ sectionHeaderAt h i ⌝ }
     ensures { λ r. ⌜ r < 2 ^ 38 ⌝ }
 {
     h.section_table as usize + SECTION_SIZE * (i as usize)
 }
 
-pub fn symbol_at(h: Header, j: u32) -> usize
-    ensures { λ r. ⌜ r ≡ symbolAt h j ⌝ }
+// Where symbol record j starts.
+pub fn symbol_record_at(h: Header, j: u32) -> usize
+    ensures { λ r. ⌜ r ≡ symbolRecordAt h j ⌝ }
     ensures { λ r. ⌜ r < 2 ^ 38 ⌝ }
 {
     h.symbol_table as usize + SYMBOL_SIZE * (j as usize)
@@ -87,7 +94,7 @@ pub fn string_table(h: Header) -> usize
     ensures { λ r. ⌜ r ≡ stringTable h ⌝ }
     ensures { λ r. ⌜ r < 2 ^ 38 ⌝ }
 {
-    symbol_at(h, h.symbols)
+    symbol_record_at(h, h.symbols)
 }
 
 // The string table's length, itself included; 0 where there are no symbols.

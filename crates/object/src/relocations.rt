@@ -14,18 +14,21 @@ fn relocation_at(f: &[u8], h: Header, i: u32, k: u32) -> usize
     relocation_start(f, h, i) + RELOCATION_SIZE * (k as usize)
 }
 
+// Its address field.
 pub fn relocation_address(f: &[u8], h: Header, i: u32, k: u32) -> u32
     ensures { λ r. ⌜ r ≡ relocationAddress (now (f .entry)) h i k ⌝ }
 {
     le::u32_at(f, relocation_at(f, h, i, k))
 }
 
+// Its symbol's number.
 pub fn relocation_symbol(f: &[u8], h: Header, i: u32, k: u32) -> u32
     ensures { λ r. ⌜ r ≡ relocationSymbol (now (f .entry)) h i k ⌝ }
 {
     le::u32_at(f, relocation_at(f, h, i, k) + 4)
 }
 
+// Its type.
 pub fn relocation_type(f: &[u8], h: Header, i: u32, k: u32) -> u16
     ensures { λ r. ⌜ r ≡ relocationType (now (f .entry)) h i k ⌝ }
 {

@@ -5,7 +5,7 @@ use crate::format::section_u16;
 use crate::format::section_u32;
 ghost use mathlib.Core.Path.{_≡_};
 ghost use Prim.Native.Nat.{_^_, _<_};
-ghost use Rattle.object.specs.Format.{virtualAddress, rawSize, rawPointer, relocationPointer, relocationField, flags};
+ghost use Rattle.object.specs.Format.{addressField, rawSize, rawPointer, relocationPointer, relocationField, flags};
 ghost use Rattle.object.specs.Section.{
   loaded,
   uninitialized,
@@ -19,24 +19,31 @@ ghost use Rattle.object.specs.Section.{
   relocationStart,
 };
 
-pub fn virtual_address(f: &[u8], h: Header, i: u32) -> u32
-    ensures { λ r. ⌜ r ≡ virtualAddress (now (f .entry)) h i ⌝ }
+// What the count field holds where the count does not fit it.
+const OVERFLOW_COUNT: u16 = 65535;
+
+// The fields of a record.
+pub fn address_field(f: &[u8], h: Header, i: u32) -> u32
+    ensures { λ r. ⌜ r ≡ addressField (now (f .entry)) h i ⌝ }
 {
     section_u32(f, h, i, 12)
 }
 
+// The size of its bytes in the file.
 pub fn raw_size(f: &[u8], h: Header, i: u32) -> u32
     ensures { λ r. ⌜ r ≡ rawSize (now (f .entry)) h i ⌝ }
 {
     section_u32(f, h, i, 16)
 }
 
+// Where they start.
 pub fn raw_pointer(f: &[u8], h: Header, i: u32) -> u32
     ensures { λ r. ⌜ r ≡ rawPointer (now (f .entry)) h i ⌝ }
 {
     section_u32(f, h, i, 20)
 }
 
+// Where its relocation records start.
 pub fn relocation_pointer(f: &[u8], h: Header, i: u32) -> u32
     ensures { λ r. ⌜ r ≡ relocationPointer (now (f .entry)) h i ⌝ }
 {
@@ -62,6 +69,7 @@ pub fn is_loaded(f: &[u8], h: Header, i: u32) -> bool
     kinds::loaded_by(section_flags(f, h, i))
 }
 
+// It has no bytes in the file.
 pub fn is_uninitialized(f: &[u8], h: Header, i: u32) -> bool
     ensures { λ r. ⌜ r ≡ uninitialized (now (f .entry)) h i ⌝ }
 {
@@ -110,12 +118,10 @@ pub fn range_length(f: &[u8], h: Header, i: u32) -> u64
 pub fn is_extended(f: &[u8], h: Header, i: u32) -> bool
     ensures { λ r. ⌜ r ≡ extended (now (f .entry)) h i ⌝ }
 {
-    let over = section_flags(f, h, i) / kinds::LNK_NRELOC_OVFL % 2 == 1;
-    if over {
-        relocation_field(f, h, i) == 65535
-    } else {
-        false
-    }
+    util::both(
+        section_flags(f, h, i) / kinds::LNK_NRELOC_OVFL % 2 == 1,
+        relocation_field(f, h, i) == OVERFLOW_COUNT,
+    )
 }
 
 // How many records stand at the relocation pointer, the one with the count included.

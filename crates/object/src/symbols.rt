@@ -6,10 +6,13 @@ use crate::format::symbol_u32;
 use kinds::Place;
 use kinds::SymbolKind;
 ghost use mathlib.Core.Path.{_≡_};
+ghost use lib.Dec.{eqb};
+ghost use Rattle.util.specs.Pick.{pick};
 ghost use Rattle.le.specs.Le.{splice};
 ghost use Rattle.object.specs.Format.{symbolValue, sectionField, symbolType, symbolClass, auxiliaries};
-ghost use Rattle.object.specs.Symbol.{kind, symbolPlace, listedValue, owed, primaries};
+ghost use Rattle.object.specs.Symbol.{kind, symbolPlace, listedValue, leftAfter, auxiliariesLeft, primaries, isOwn};
 
+// Its value.
 pub fn symbol_value(f: &[u8], h: Header, j: u32) -> u32
     ensures { λ r. ⌜ r ≡ symbolValue (now (f .entry)) h j ⌝ }
 {
@@ -28,6 +31,7 @@ fn symbol_type(f: &[u8], h: Header, j: u32) -> u16
     symbol_u16(f, h, j, 14)
 }
 
+// Its storage class.
 pub fn symbol_class(f: &[u8], h: Header, j: u32) -> u8
     ensures { λ r. ⌜ r ≡ symbolClass (now (f .entry)) h j ⌝ }
 {
@@ -41,6 +45,7 @@ pub fn auxiliaries(f: &[u8], h: Header, j: u32) -> u8
     symbol_u8(f, h, j, 17)
 }
 
+// What it is.
 pub fn symbol_kind(f: &[u8], h: Header, j: u32) -> SymbolKind
     ensures { λ r. ⌜ r ≡ kind (now (f .entry)) h j ⌝ }
 {
@@ -52,6 +57,7 @@ pub fn symbol_kind(f: &[u8], h: Header, j: u32) -> SymbolKind
     )
 }
 
+// Where it is.
 pub fn symbol_place(f: &[u8], h: Header, j: u32) -> Place
     ensures { λ r. ⌜ r ≡ symbolPlace (now (f .entry)) h j ⌝ }
 {
@@ -69,41 +75,55 @@ pub fn listed_value(f: &[u8], h: Header, j: u32) -> u32
     kinds::listed_by(symbol_class(f, h, j), symbol_value(f, h, j))
 }
 
-// How many records past the last belong to a symbol: 0 where every auxiliary record lies within the table.
-pub fn owed_after(f: &[u8], h: Header) -> u8
-    ensures { λ r. ⌜ r ≡ owed (now (f .entry)) h (h .symbols) ⌝ }
+// How many auxiliary records stand behind record j, if `left` do from j on.
+pub fn left_after(f: &[u8], h: Header, j: u32, left: u8) -> u8
+    ensures { λ r. ⌜ r ≡ leftAfter (now (f .entry)) h j left ⌝ }
+{
+    if left == 0 {
+        auxiliaries(f, h, j)
+    } else {
+        left - 1
+    }
+}
+
+// How many auxiliary records lie past the table: 0 where every symbol's are in it.
+pub fn auxiliaries_past(f: &[u8], h: Header) -> u8
+    ensures { λ r. ⌜ r ≡ auxiliariesLeft (now (f .entry)) h (h .symbols) ⌝ }
 {
     let n = h.symbols;
     let mut left: u8 = 0;
     let mut j: u32 = 0;
     while j < n {
-        if left == 0 {
-            left = auxiliaries(f, h, j);
-            j += 1;
-        } else {
-            left = left - 1;
-            j += 1;
-        }
+        left = left_after(f, h, j, left);
+        j += 1;
     }
     left
 }
 
+// 1 for a symbol's own record, 0 for an auxiliary one.
+fn own_mark(left: u8) -> u8
+    ensures { λ r. ⌜ r ≡ pick (eqb left 0) 1 0 ⌝ }
+{
+    if left == 0 { 1 } else { 0 }
+}
+
 // One pass over the symbol records: a byte each, 1 for a symbol's own record and 0 for an auxiliary one.
-pub fn fill_primaries(f: &[u8], h: Header, map: &mut [u8])
-    ensures { λ _. ⌜ now (map .exit) ≡ splice (now (map .entry)) 0 (primaries (now (f .entry)) h (h .symbols)) ⌝ }
+pub fn fill_primaries(f: &[u8], h: Header, own: &mut [u8])
+    ensures { λ _. ⌜ now (own .exit) ≡ splice (now (own .entry)) 0 (primaries (now (f .entry)) h (h .symbols)) ⌝ }
 {
     let n = h.symbols;
     let mut left: u8 = 0;
     let mut j: u32 = 0;
     while j < n {
-        if left == 0 {
-            le::put_u8(map, j as usize, 1);
-            left = auxiliaries(f, h, j);
-            j += 1;
-        } else {
-            le::put_u8(map, j as usize, 0);
-            left = left - 1;
-            j += 1;
-        }
+        le::put_u8(own, j as usize, own_mark(left));
+        left = left_after(f, h, j, left);
+        j += 1;
     }
+}
+
+// Record j is a symbol's own, by those bytes.
+pub fn is_own(own: &[u8], j: u32) -> bool
+    ensures { λ r. ⌜ r ≡ isOwn (now (own .entry)) j ⌝ }
+{
+    le::byte_at(own, j as usize) == 1
 }

@@ -1,115 +1,75 @@
--- What the code asks: the marks' words and loops, pages against bytes, and each check's ways. Assumes nothing.
+-- What the code asks: pages against bytes, and each check's ways. Assumes nothing.
 use mathlib.Core.Path.{_≡_, refl, sym, _∙_}
 use mathlib.Core.Bool.{Bool, true, false, _&&_}
 use mathlib.Core.List.{List, append-nil}
 use Prim.Native.Nat.{ℕ, _+_, _-_, _*_, _/_, _%_, _^_, _≤_, _<_, max}
 use native.Mathlib.Omega.{arith}
-use native.Mathlib.Numerals.{add-one}
 use lib.ListN.{length, getD, take, drop, length-take, length-drop, drop-of-length-le}
-use lib.Count.{ones, ones-le}
 use lib.Dec.{ltb, leb, eqb}
 use borrow.Author.Tests.{le-ltb, le-leb, leb-true, leb-false}
 use Rattle.util.specs.Pick.{pick, both-ways}
-use Rattle.util.specs.Prefix.{allTo, sumTo, all-at, all-of, all-stop}
-use Rattle.le.specs.Le.{get, splice, part, splice-front}
+use Rattle.util.specs.Prefix.{allTo, all-at, all-of, all-stop}
+use Rattle.arch.specs.Page.{PAGE-SIZE, pageOf, onPage}
+use Rattle.le.specs.Le.{splice, part, splice-front}
 use Rattle.refusal.specs.Refusal.{numberOf, Leaves, leaves-done}
 use Rattle.refusal.specs.declared.Answer.the-variants.{Done}
 use Rattle.refusal.specs.declared.Number.{Number}
-use Rattle.pagemap.specs.Marks.{marked, wordAt}
-use Rattle.pagemap.specs.Pages.{storageOk, mapped, spanMapped, probed, readCode, sliceCode}
+use Rattle.marks.specs.Marks.{WORD-BYTES, wordsFor, marked, allMarked}
+use Rattle.pagemap.specs.Pages.{lent, storageOk, mapped, spanMapped, probed, readCode, sliceCode}
 use Rattle.pagemap.specs.PageLaws.{mapped-of, mapped-marked, read-in, slice-ordered, slice-in}
 
--- ---- the marks
-pub marked-is : (m : List ℕ) (p w : ℕ) → w ≡ get 8 m (8 * (p / 64)) → eqb (w / 2 ^ (p % 64) % 2) 1 ≡ marked m p
-unfolding marked
-marked-is m p w e = rw e
-
--- a sum modulo 2 ^ 64, as the count's loop has it
-module _ (f : ℕ → ℕ) where
-  pub wrap-none : 0 ≡ sumTo f 0 % 2 ^ 64
-  unfolding sumTo
-  wrap-none = refl
-
-  pub wrap-again : (i s n r : ℕ) → s ≡ sumTo f i % 2 ^ 64 → n ≡ f i → r ≡ (s + n) % 2 ^ 64 → r ≡ sumTo f (i + 1) % 2 ^ 64
-  unfolding sumTo
-  wrap-again i s n r p d q = rw (q, add-one, p, d) (omega arith)
-
-  pub wrap-end : (i n m s : ℕ) → s ≡ sumTo f i % 2 ^ 64 → i ≤ n → n ≤ i → n ≡ m → s ≡ sumTo f m % 2 ^ 64
-  wrap-end i n m s p h k q = let z : i ≡ m = omega arith in rw (← z) p
-
-pub ones-fit : (w : ℕ) → w < 2 ^ 64 → ones w < 2 ^ 64
-ones-fit w h = let k : ones w ≤ 64 = ones-le 64 w h in omega arith
-
-pub ones-are : (m : List ℕ) (w word : ℕ) → word ≡ get 8 m (8 * w) → ones word ≡ ones (wordAt m w)
-ones-are m w word e = rw e
-
-pub ruleset count-loop = (wrap-none, wrap-again, wrap-end, ones-fit, ones-are)
-
 -- ---- a span: its pages' marks say what its bytes' do
-abbrev pagesOf : ℕ → ℕ → ℕ
-pagesOf o m = (o + (m - 1)) / 4096 - o / 4096 + 1
+abbrev pageEnd : ℕ → ℕ → ℕ
+pageEnd o m = pageOf (o + (m - 1)) + 1
 
 module _ (size : ℕ) (marks : List ℕ) (o m : ℕ) where
-  span-bytes : 0 < m → o + m ≤ size / 4096 * 4096 → allTo (λ k. marked marks (o / 4096 + k)) (pagesOf o m) ≡ allTo (λ k. mapped size marks (o + k)) m
+  span-bytes : 0 < m → o + m ≤ lent size * PAGE-SIZE → allMarked marks (pageOf o) (pageEnd o m) ≡ allTo (λ k. mapped size marks (o + k)) m
+  unfolding allMarked
   span-bytes z h =
-      both-ways (allTo (λ k. marked marks (o / 4096 + k)) (pagesOf o m)) (allTo (λ k. mapped size marks (o + k)) m)
+      both-ways (allMarked marks (pageOf o) (pageEnd o m)) (allTo (λ k. mapped size marks (o + k)) m)
       (λ e. all-of (λ k. mapped size marks (o + k)) m
       (λ k l.
-      let q : o / 4096 + ((o + k) / 4096 - o / 4096) ≡ (o + k) / 4096 = omega arith in
-      let t = all-at (λ k. marked marks (o / 4096 + k)) (pagesOf o m) ((o + k) / 4096 - o / 4096) e (omega arith) in
+      let q : pageOf o + (pageOf (o + k) - pageOf o) ≡ pageOf (o + k) = omega arith in
+      let t = all-at (λ k. marked marks (pageOf o + k)) (pageEnd o m - pageOf o) (pageOf (o + k) - pageOf o) e (omega arith) in
       mapped-of size marks (o + k) (omega arith) (rw q at t)))
-      (λ e. all-of (λ k. marked marks (o / 4096 + k)) (pagesOf o m)
+      (λ e. all-of (λ k. marked marks (pageOf o + k)) (pageEnd o m - pageOf o)
       (λ j l.
-      let k : ℕ = (o / 4096 + j) * 4096 - o in
-      let q : (o + k) / 4096 ≡ o / 4096 + j = omega arith in
+      let k : ℕ = (pageOf o + j) * PAGE-SIZE - o in
+      let q : pageOf (o + k) ≡ pageOf o + j = omega arith in
       rw q at (mapped-marked size marks (o + k) (all-at (λ k. mapped size marks (o + k)) m k e (omega arith)))))
 
   -- a byte past the lent pages is not mapped
-  span-out : 0 < m → size / 4096 * 4096 < o + m → allTo (λ k. mapped size marks (o + k)) m ≡ false
+  span-out : 0 < m → lent size * PAGE-SIZE < o + m → allTo (λ k. mapped size marks (o + k)) m ≡ false
   unfolding mapped
   span-out z h =
       all-stop (λ k. mapped size marks (o + k)) (m - 1) m (omega arith)
-      (let f : ltb ((o + (m - 1)) / 4096) (size / 4096) ≡ false = le-ltb ((o + (m - 1)) / 4096) (size / 4096) (omega arith) in rw f)
+      (let f : ltb (pageOf (o + (m - 1))) (lent size) ≡ false = le-ltb (pageOf (o + (m - 1))) (lent size) (omega arith) in rw f)
 
 module _ (size : ℕ) (marks : List ℕ) (o n m : ℕ) (w : Bool) where
-  pub span-yes : (r : Bool) → m ≡ max n 1 → w ≡ leb (o + m) (size / 4096 * 4096) → w ≡ true
-      → r ≡ allTo (λ k. marked marks (o / 4096 + k)) ((o + (m - 1)) / 4096 - o / 4096 + 1) → r ≡ spanMapped size marks o n
+  pub span-yes : (r : Bool) → m ≡ max n 1 → w ≡ leb (o + m) (lent size * PAGE-SIZE) → w ≡ true
+      → r ≡ allMarked marks (pageOf o) (pageOf (o + (m - 1)) + 1) → r ≡ spanMapped size marks o n
   unfolding spanMapped
   span-yes r e q t d = d ∙ rw (← e) (span-bytes size marks o m (omega arith) (leb-true _ _ (cc)))
 
-  pub span-no : m ≡ max n 1 → w ≡ leb (o + m) (size / 4096 * 4096) → w ≡ false → false ≡ spanMapped size marks o n
+  pub span-no : m ≡ max n 1 → w ≡ leb (o + m) (lent size * PAGE-SIZE) → w ≡ false → false ≡ spanMapped size marks o n
   unfolding spanMapped
   span-no e q t = rw (← e) (sym (span-out size marks o m (omega arith) (leb-false _ _ (cc))))
 
-  pub span-fits : size < 2 ^ 64 → w ≡ leb (o + m) (size / 4096 * 4096) → w ≡ true → o + (m - 1) < 2 ^ 64
-  span-fits f q t = let h : o + m ≤ size / 4096 * 4096 = leb-true _ _ (cc) in omega arith
+  pub span-fits : size < 2 ^ 64 → w ≡ leb (o + m) (lent size * PAGE-SIZE) → w ≡ true → o + (m - 1) < 2 ^ 64
+  span-fits f q t = let h : o + m ≤ lent size * PAGE-SIZE = leb-true _ _ (cc) in omega arith
 
 pub ruleset span-ways = (span-yes, span-no, span-fits)
 
--- ---- a test that is two, as branches take it
-pub and-yes : (a b x : Bool) → a ≡ true → x ≡ b → x ≡ a && b
-and-yes a b x e q = rw (e, q)
+-- ---- the storage's two tests
+pub storage-is : (size marks w : ℕ) (r : Bool) → w ≡ wordsFor (lent size) → r ≡ (onPage size && leb (WORD-BYTES * w) marks) → r ≡ storageOk size marks
+unfolding storageOk
+storage-is size marks w r e q = rw (← e) q
 
-pub and-no : (a b : Bool) → a ≡ false → false ≡ a && b
-and-no a b e = rw e
-
-pub ruleset ands = (and-yes, and-no)
-
--- ---- the ways through `probe`
-module _ (size : ℕ) (marks : List ℕ) (o : ℕ) (ok : Bool) (is : ok ≡ storageOk size (length marks)) where
-  pub probe-bad : ok ≡ false → false ≡ probed size marks o
-  unfolding probed
-  probe-bad e = rw (← is, e)
-
-  pub probe-past : ok ≡ true → ltb (o / 4096) (size / 4096) ≡ false → false ≡ probed size marks o
-  unfolding probed mapped
-  probe-past e h = rw (← is, e, h)
-
-  pub probe-lent : (r : Bool) → ok ≡ true → ltb (o / 4096) (size / 4096) ≡ true → r ≡ marked marks (o / 4096) → r ≡ probed size marks o
-  unfolding probed mapped
-  probe-lent r e h q = rw (← is, e, h) q
-
-pub ruleset probe-ways = (probe-bad, probe-past, probe-lent)
+-- ---- the storage is good, the page is lent, and it is marked
+pub probe-is : (size : ℕ) (marks : List ℕ) (o : ℕ) (r a b m : Bool) → r ≡ (a && b) → a ≡ storageOk size (length marks) → b ≡ (ltb (pageOf o) (lent size) && m)
+    → m ≡ marked marks (pageOf o) → r ≡ probed size marks o
+unfolding probed mapped
+probe-is size marks o r a b m e p q d = rw (← p, ← d, ← q) e
 
 -- ---- the ways through `slice_code`; a start past the end leaves nothing to fit, so it is 15 in any buffer
 module _ (size : ℕ) (marks : List ℕ) (start end room : ℕ) (ok : Bool) (q : ok ≡ storageOk size (length marks)) where

@@ -1,4 +1,2 @@
-pub mod Marks
 pub mod Pages
-pub mod MarkLaws
 pub mod PageLaws

@@ -7,11 +7,13 @@ use native.Mathlib.Omega.{arith}
 use native.Mathlib.Nat.{add-zero}
 use lib.ListN.{length}
 use lib.Dec.{ltb, leb, eqb}
-use borrow.Author.Tests.{lt-ltb, ltb-true, leb-true, eqb-true}
-use Rattle.util.specs.Pick.{pick, passed, passed-on, and-left, and-right, and-both}
+use borrow.Author.Tests.{lt-ltb, ltb-true, le-leb, leb-true, eq-eqb, eqb-true}
+use Rattle.util.specs.Pick.{pick, head-passes, rest-passes, and-left, and-right, and-both}
 use Rattle.util.specs.Prefix.{allTo, all-at, all-of}
+use Rattle.le.specs.Le.{length-splice}
 use Rattle.arch.specs.Page.{PAGE-SIZE, pageOf, onPage}
-use Rattle.pagemap.specs.Marks.{WORD-BYTES, marked, wordsFor}
+use Rattle.marks.specs.Marks.{WORD-PAGES, WORD-BYTES, marked, wordsFor, markBytes, marksPut}
+use Rattle.marks.specs.PutLaws.{marked-pages}
 use Rattle.pagemap.specs.Pages.{lent, storageOk, mapped, spanMapped, probed, readCode, sliceCode}
 
 -- ---- an offset is mapped where its page is lent and marked
@@ -46,8 +48,8 @@ module _ (size : ℕ) (marks : List ℕ) (o n : ℕ) where
   pub read-span : readCode size marks o n ≡ 0 → spanMapped size marks o n ≡ true
   unfolding readCode
   read-span e =
-      passed (spanMapped size marks o n) 0 15
-      (passed-on (storageOk size (length marks)) (pick (spanMapped size marks o n) 0 15) 13 e (λ z. omega arith))
+      head-passes (spanMapped size marks o n) 0 15
+      (rest-passes (storageOk size (length marks)) (pick (spanMapped size marks o n) 0 15) 13 e (λ z. omega arith))
       (λ z. omega arith)
 
   pub read-in : readCode size marks o n ≡ 0 → o + max n 1 ≤ size
@@ -58,8 +60,8 @@ module _ (size : ℕ) (marks : List ℕ) (start end room : ℕ) (e : sliceCode s
   slice-tests : leb start end && spanMapped size marks start (end - start) ≡ true
   unfolding sliceCode
   slice-tests =
-      passed (leb start end && spanMapped size marks start (end - start)) 0 15
-      (passed-on (storageOk size (length marks) && leb (end - start) room) (pick (leb start end && spanMapped size marks start (end - start)) 0 15) 13
+      head-passes (leb start end && spanMapped size marks start (end - start)) 0 15
+      (rest-passes (storageOk size (length marks) && leb (end - start) room) (pick (leb start end && spanMapped size marks start (end - start)) 0 15) 13
       e (λ z. omega arith))
       (λ z. omega arith)
 
@@ -77,7 +79,7 @@ module _ (size : ℕ) (marks : List ℕ) (start end room : ℕ) (e : sliceCode s
   slice-room =
       leb-true (end - start) room
       (and-right (storageOk size (length marks)) (leb (end - start) room)
-      (passed (storageOk size (length marks) && leb (end - start) room) (pick (leb start end && spanMapped size marks start (end - start)) 0 15) 13
+      (head-passes (storageOk size (length marks) && leb (end - start) room) (pick (leb start end && spanMapped size marks start (end - start)) 0 15) 13
       e (λ z. omega arith)))
 
 -- ---- `probe` says yes exactly where an empty read, or one of a byte, is not refused
@@ -110,8 +112,25 @@ module _ (size marks : ℕ) (e : storageOk size marks ≡ true) where
   unfolding storageOk
   storage-whole = eqb-true (size % PAGE-SIZE) 0 (and-left (onPage size) (leb (WORD-BYTES * wordsFor (lent size)) marks) e)
 
-  pub storage-marks : lent size ≤ 64 * (marks / 8)
+  pub storage-marks : lent size ≤ WORD-PAGES * (marks / WORD-BYTES)
   unfolding storageOk
   storage-marks =
       let h = leb-true (WORD-BYTES * wordsFor (lent size)) marks (and-right (onPage size) (leb (WORD-BYTES * wordsFor (lent size)) marks) e) in
       omega arith
+
+-- ---- with the marks of the first pages
+module _ (pages : ℕ) (m : List ℕ) (room : WORD-BYTES * wordsFor pages ≤ length m) where
+  -- every span within the pages is mapped, in an image that is at least as long
+  pub mark-spans : (size o n : ℕ) → PAGE-SIZE * pages ≤ size → 0 < n → o + n ≤ PAGE-SIZE * pages → spanMapped size (marksPut pages m) o n ≡ true
+  mark-spans size o n s z h =
+      span-of size (marksPut pages m) o n
+      (λ k p. mapped-of size (marksPut pages m) (o + k) (omega arith) (marked-pages pages m room (pageOf (o + k)) (omega arith)))
+
+  -- and the pages with these marks are good storage
+  pub mark-storage : storageOk (PAGE-SIZE * pages) (length (marksPut pages m)) ≡ true
+  unfolding storageOk
+  mark-storage =
+      let l : length (marksPut pages m) ≡ length m = length-splice m 0 (markBytes pages (wordsFor pages)) in
+      and-both (onPage (PAGE-SIZE * pages)) (leb (WORD-BYTES * wordsFor (PAGE-SIZE * pages / PAGE-SIZE)) (length (marksPut pages m)))
+      (eq-eqb (PAGE-SIZE * pages % PAGE-SIZE) 0 (omega arith))
+      (le-leb (WORD-BYTES * wordsFor (PAGE-SIZE * pages / PAGE-SIZE)) (length (marksPut pages m)) (omega arith))

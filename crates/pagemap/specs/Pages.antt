@@ -8,7 +8,7 @@ use Rattle.util.specs.Pick.{pick}
 use Rattle.util.specs.Prefix.{allTo}
 use Rattle.arch.specs.Page.{PAGE-SIZE, pageOf, onPage}
 use Rattle.refusal.specs.Refusal.{STORAGE, NOT-MAPPED}
-use Rattle.pagemap.specs.Marks.{WORD-BYTES, marked, wordsFor}
+use Rattle.marks.specs.Marks.{WORD-BYTES, marked, wordsFor}
 
 -- how many pages an image of `size` bytes lends
 abbrev pub lent : ℕ → ℕ

@@ -1,11 +1,7 @@
-// Pages in lent storage, from pagemap.rs: the image lies page after page in `image`, and `marks` has one bit a page in 64-bit words.
+// Pages in lent storage, from pagemap.rs: the image lies page after page in `image`, and `marks` has one bit a page (crate `marks`).
 // Every function first tests the storage (13): the image is whole pages, and there are marks for all of them. The crate `pagewrite` writes pages.
-mod marks;
 mod reading;
 
-pub use marks::WORD_BYTES;
-pub use marks::WORD_PAGES;
-pub use marks::page_count;
 pub use reading::get;
 pub use reading::probe;
 pub use reading::read_code;

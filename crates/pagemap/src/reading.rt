@@ -1,8 +1,7 @@
 // Reading: every page that is touched must be mapped, and is tested before a byte is handed over.
-use crate::marks::all_marked;
-use crate::marks::marked;
 use arch::PAGE_SIZE;
 use arch::RVA;
+use marks::WORD_BYTES;
 use refusal::Answer;
 use refusal::NOT_MAPPED;
 use refusal::Number;
@@ -19,22 +18,20 @@ pub fn storage_ok(size: u64, marks: u64) -> bool
     ensures { λ r. ⌜ r ≡ storageOk size marks ⌝ }
 {
     let whole = size % PAGE_SIZE == 0;
-    if whole {
-        8 * ((size / PAGE_SIZE + 63) / 64) <= marks
-    } else {
-        false
-    }
+    let has_marks = WORD_BYTES * marks::words_for(size / PAGE_SIZE) <= marks;
+    util::both(whole, has_marks)
 }
 
 // Each of the n bytes from `o` is mapped in an image of `size` bytes; if n is 0, `o` itself is.
-pub fn span_mapped(size: u64, marks: &[u8], o: u64, n: u64) -> bool
-    ensures { λ r. ⌜ r ≡ spanMapped size (now (marks .entry)) o n ⌝ }
+pub fn span_mapped(size: u64, marks: &[u8], o: RVA, n: u64) -> bool
+    ensures { λ r. ⌜ r ≡ spanMapped size (now (marks .entry)) (o .0) n ⌝ }
 {
+    let at = o.0;
     let m = util::most(n, 1);
-    if util::within(o, m, size / PAGE_SIZE * PAGE_SIZE) {
-        let first = o / PAGE_SIZE;
-        let last = (o + (m - 1)) / PAGE_SIZE;
-        all_marked(marks, first, last - first + 1)
+    if util::within(at, m, size / PAGE_SIZE * PAGE_SIZE) {
+        let first = at / PAGE_SIZE;
+        let last = (at + (m - 1)) / PAGE_SIZE;
+        marks::all_marked(marks, first, last + 1)
     } else {
         false
     }
@@ -45,22 +42,17 @@ pub fn probe(image: &[u8], marks: &[u8], rva: RVA) -> bool
     ensures { λ r. ⌜ r ≡ probed (length (now (image .entry))) (now (marks .entry)) (rva .0) ⌝ }
 {
     let size = image.len() as u64;
-    if storage_ok(size, marks.len() as u64) {
-        let o = rva.0;
-        let lent = o / PAGE_SIZE < size / PAGE_SIZE;
-        if lent {
-            marked(marks, o / PAGE_SIZE)
-        } else {
-            false
-        }
-    } else {
-        false
-    }
+    let page = rva.0 / PAGE_SIZE;
+    let lent = page < size / PAGE_SIZE;
+    util::both(
+        storage_ok(size, marks.len() as u64),
+        util::both(lent, marks::marked(marks, page)),
+    )
 }
 
 // The refusal of reading n bytes from `o`, or 0.
-pub fn read_code(size: u64, marks: &[u8], o: u64, n: u64) -> u64
-    ensures { λ r. ⌜ r ≡ readCode size (now (marks .entry)) o n ⌝ }
+pub fn read_code(size: u64, marks: &[u8], o: RVA, n: u64) -> u64
+    ensures { λ r. ⌜ r ≡ readCode size (now (marks .entry)) (o .0) n ⌝ }
 {
     if storage_ok(size, marks.len() as u64) {
         if span_mapped(size, marks, o, n) {
@@ -77,7 +69,7 @@ pub fn read_code(size: u64, marks: &[u8], o: u64, n: u64) -> u64
 pub fn get(image: &[u8], marks: &[u8], rva: RVA) -> Number
     ensures { λ r. ⌜ r ≡ numberOf (readCode (length (now (image .entry))) (now (marks .entry)) (rva .0) 1) (getD (now (image .entry)) (rva .0) 0) ⌝ }
 {
-    let code = read_code(image.len() as u64, marks, rva.0, 1);
+    let code = read_code(image.len() as u64, marks, rva, 1);
     refusal::number_of(code, le::byte_at(image, rva.0 as usize) as u64)
 }
 
@@ -87,7 +79,7 @@ pub fn slice_into(image: &[u8], marks: &[u8], start: RVA, buf: &mut [u8]) -> Ans
         (now (buf .entry)) (part (now (image .entry)) (start .0) (length (now (buf .entry)))) (now (buf .exit)) r ⌝ }
 {
     let n = buf.len();
-    let code = read_code(image.len() as u64, marks, start.0, n as u64);
+    let code = read_code(image.len() as u64, marks, start, n as u64);
     if code == 0 {
         let from = start.0 as usize;
         let to = from + n;
@@ -99,15 +91,16 @@ pub fn slice_into(image: &[u8], marks: &[u8], start: RVA, buf: &mut [u8]) -> Ans
 }
 
 // The refusal of reading from `start` up to `end` into `room` bytes, or 0.
-fn slice_code(size: u64, marks: &[u8], start: u64, end: u64, room: u64) -> u64
-    ensures { λ r. ⌜ r ≡ sliceCode size (now (marks .entry)) start end room ⌝ }
+fn slice_code(size: u64, marks: &[u8], start: RVA, end: RVA, room: u64) -> u64
+    ensures { λ r. ⌜ r ≡ sliceCode size (now (marks .entry)) (start .0) (end .0) room ⌝ }
 {
     if storage_ok(size, marks.len() as u64) {
-        let ordered = start <= end;
+        let ordered = start.0 <= end.0;
         if ordered {
-            let fits = end - start <= room;
+            let n = end.0 - start.0;
+            let fits = n <= room;
             if fits {
-                if span_mapped(size, marks, start, end - start) {
+                if span_mapped(size, marks, start, n) {
                     0
                 } else {
                     NOT_MAPPED
@@ -128,7 +121,7 @@ pub fn slice(image: &[u8], marks: &[u8], start: RVA, end: RVA, buf: &mut [u8]) -
     ensures { λ r. ⌜ Leaves (sliceCode (length (now (image .entry))) (now (marks .entry)) (start .0) (end .0) (length (now (buf .entry))))
         (now (buf .entry)) (splice (now (buf .entry)) 0 (part (now (image .entry)) (start .0) (end .0 - start .0))) (now (buf .exit)) r ⌝ }
 {
-    let code = slice_code(image.len() as u64, marks, start.0, end.0, buf.len() as u64);
+    let code = slice_code(image.len() as u64, marks, start, end, buf.len() as u64);
     if code == 0 {
         let from = start.0 as usize;
         let to = end.0 as usize;

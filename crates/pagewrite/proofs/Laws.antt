@@ -12,11 +12,13 @@ use lib.Dec.{leb, eqb}
 use lib.Pow.{shl-exact}
 use borrow.Author.Tests.{le-leb, lt-leb, ne-eqb, leb-true, leb-false}
 use Rattle.util.specs.Align.{roundUp, up-not-below, align-exact}
-use Rattle.util.specs.Pick.{pick, passed, passed-on}
+use Rattle.util.specs.Pick.{pick, head-passes, rest-passes}
+use Rattle.arch.specs.Page.{PAGE-SIZE}
 use Rattle.le.specs.Le.{get, le, splice, splice-front, splice-next}
 use Rattle.refusal.specs.Refusal.{doneOf, unlessRefused, Leaves, LeavesBoth}
 use Rattle.refusal.specs.declared.Answer.{Answer}
 use Rattle.refusal.specs.declared.Answer.the-variants.{Done, Refused}
+use Rattle.marks.specs.Marks.{WORD-PAGES, WORD-BYTES}
 use Rattle.pagemap.specs.Pages.{storageOk, readCode}
 use Rattle.pagemap.specs.PageLaws.{read-in}
 use Rattle.pagewrite.specs.Marking.{mark, markPages}
@@ -25,11 +27,11 @@ use Rattle.pagewrite.specs.PageWrite.{pagesLent, paddedWriteCode, padded
 use Rattle.pagewrite.specs.PageWriteLaws.{padded-fits}
 
 -- ---- the marks
-pub mark-is : (m x : List ℕ) (p w : ℕ) → w ≡ get 8 m (8 * (p / 64)) → x ≡ splice m (8 * (p / 64)) (le 8 (bitOr w (1 * 2 ^ (p % 64) % 2 ^ 64))) → x ≡ mark m p
+pub mark-is : (m x : List ℕ) (p w : ℕ) → w ≡ get WORD-BYTES m (WORD-BYTES * (p / WORD-PAGES)) → x ≡ splice m (WORD-BYTES * (p / WORD-PAGES)) (le WORD-BYTES (bitOr w (1 * 2 ^ (p % WORD-PAGES) % 2 ^ 64))) → x ≡ mark m p
 unfolding mark
 mark-is m x p w d q =
-    let f : p % 64 < 64 = mod-lt p (omega arith) in
-    let s : 1 * 2 ^ (p % 64) % 2 ^ 64 ≡ 1 * 2 ^ (p % 64) = shl-exact 1 (p % 64) 64 (omega arith) (omega arith) in
+    let f : p % WORD-PAGES < WORD-PAGES = mod-lt p (omega arith) in
+    let s : 1 * 2 ^ (p % WORD-PAGES) % 2 ^ 64 ≡ 1 * 2 ^ (p % WORD-PAGES) = shl-exact 1 (p % WORD-PAGES) 64 (omega arith) (omega arith) in
     rw (q, s, one-mul, d)
 
 pub pages-none : (m : List ℕ) (p : ℕ) → m ≡ markPages m p 0
@@ -58,16 +60,16 @@ module _ (size o n : ℕ) where
   unfolding pagesLent pick
   lent-none e = rw e
 
-  pub lent-few : (r : Bool) → eqb n 0 ≡ false → r ≡ leb (o + n * 4096) size → r ≡ pagesLent size o n
+  pub lent-few : (r : Bool) → eqb n 0 ≡ false → r ≡ leb (o + n * PAGE-SIZE) size → r ≡ pagesLent size o n
   unfolding pagesLent pick
   lent-few r e q = rw (e, q)
 
-  pub lent-many : eqb n 0 ≡ false → leb n (size / 4096) ≡ false → false ≡ pagesLent size o n
+  pub lent-many : eqb n 0 ≡ false → leb n (size / PAGE-SIZE) ≡ false → false ≡ pagesLent size o n
   unfolding pagesLent pick
-  lent-many e h = let l : size / 4096 < n = leb-false n (size / 4096) h in rw (e, lt-leb (o + n * 4096) size (omega arith))
+  lent-many e h = let l : size / PAGE-SIZE < n = leb-false n (size / PAGE-SIZE) h in rw (e, lt-leb (o + n * PAGE-SIZE) size (omega arith))
 
-pub lent-fits : (size n : ℕ) → size < 2 ^ 64 → leb n (size / 4096) ≡ true → n * 4096 < 2 ^ 64
-lent-fits size n f h = let l : n ≤ size / 4096 = leb-true n (size / 4096) h in omega arith
+pub lent-fits : (size n : ℕ) → size < 2 ^ 64 → leb n (size / PAGE-SIZE) ≡ true → n * PAGE-SIZE < 2 ^ 64
+lent-fits size n f h = let l : n ≤ size / PAGE-SIZE = leb-true n (size / PAGE-SIZE) h in omega arith
 
 pub ruleset lent-ways = (lent-none, lent-few, lent-many, lent-fits)
 
@@ -76,9 +78,9 @@ pub padded-sum : (size marks o n k : ℕ) → size < 2 ^ 64 → k ≡ paddedWrit
 padded-sum size marks o n k f e z = let h = padded-fits size marks o n (cc) .inside (omega arith) in omega arith
 
 pub padded-is : (image x y items : List ℕ) (o : ℕ) → x ≡ splice image o items
-    → y ≡ splice x (o + length items) (replicate ((length items / 4096 + 1) * 4096 - length items) 0) → y ≡ splice image o (padded items)
+    → y ≡ splice x (o + length items) (replicate ((length items / PAGE-SIZE + 1) * PAGE-SIZE - length items) 0) → y ≡ splice image o (padded items)
 unfolding padded
-padded-is image x y items o e d = d ∙ rw e (splice-next image o items (replicate ((length items / 4096 + 1) * 4096 - length items) 0) (o + length items) refl)
+padded-is image x y items o e d = d ∙ rw e (splice-next image o items (replicate ((length items / PAGE-SIZE + 1) * PAGE-SIZE - length items) 0) (o + length items) refl)
 
 pub ruleset padded-ways = (padded-sum, padded-is)
 
@@ -100,37 +102,37 @@ still zero k new old e = cc
 still (suc c) k new old e = refl
 
 -- there is room for a padded write at 0 where there is for the capacity
-capacity-room : (size marks n : ℕ) → capacityCode size marks (roundUp n 4096) ≡ 0 → paddedWriteCode size marks 0 n ≡ 0
+capacity-room : (size marks n : ℕ) → capacityCode size marks (roundUp n PAGE-SIZE) ≡ 0 → paddedWriteCode size marks 0 n ≡ 0
 unfolding capacityCode paddedWriteCode pagesLent pick
 capacity-room size marks n e =
-    let s : storageOk size marks ≡ true = passed (storageOk size marks) (pick (leb (roundUp n 4096 / 4096 + 1) (size / 4096)) 0 13) 13 e (λ z. omega arith) in
-    let r = passed-on (storageOk size marks) (pick (leb (roundUp n 4096 / 4096 + 1) (size / 4096)) 0 13) 13 e (λ z. omega arith) in
-    let l = leb-true (roundUp n 4096 / 4096 + 1) (size / 4096) (passed (leb (roundUp n 4096 / 4096 + 1) (size / 4096)) 0 13 r (λ z. omega arith)) in
-    let u = up-not-below n 4096 (omega arith) in
-    rw (s, ne-eqb (n / 4096 + 1) 0 (λ z. omega arith), le-leb (0 + (n / 4096 + 1) * 4096) size (omega arith))
+    let s : storageOk size marks ≡ true = head-passes (storageOk size marks) (pick (leb (roundUp n PAGE-SIZE / PAGE-SIZE + 1) (size / PAGE-SIZE)) 0 13) 13 e (λ z. omega arith) in
+    let r = rest-passes (storageOk size marks) (pick (leb (roundUp n PAGE-SIZE / PAGE-SIZE + 1) (size / PAGE-SIZE)) 0 13) 13 e (λ z. omega arith) in
+    let l = leb-true (roundUp n PAGE-SIZE / PAGE-SIZE + 1) (size / PAGE-SIZE) (head-passes (leb (roundUp n PAGE-SIZE / PAGE-SIZE + 1) (size / PAGE-SIZE)) 0 13 r (λ z. omega arith)) in
+    let u = up-not-below n PAGE-SIZE (omega arith) in
+    rw (s, ne-eqb (n / PAGE-SIZE + 1) 0 (λ z. omega arith), le-leb (0 + (n / PAGE-SIZE + 1) * PAGE-SIZE) size (omega arith))
 
 module _ (image items marks m new x y : List ℕ) (a : ℕ) (r s : Answer) where
-  pub items-done : a ≡ roundUp (length items) 4096 % 2 ^ 64 → length items * 1 < 2 ^ 63
+  pub items-done : a ≡ roundUp (length items) PAGE-SIZE % 2 ^ 64 → length items * 1 < 2 ^ 63
       → Leaves (capacityCode (length image) (length marks) a) marks (replicate (length marks) 0) m s → s ≡ Done
-      → LeavesBoth (paddedWriteCode (length image) (length m) 0 (length items)) image new x m (markPages m 0 (length items / 4096 + 1)) y r
-      → LeavesBoth (capacityCode (length image) (length marks) (roundUp (length items) 4096)) image new x marks
-      (markPages (replicate (length marks) 0) 0 (length items / 4096 + 1)) y r
+      → LeavesBoth (paddedWriteCode (length image) (length m) 0 (length items)) image new x m (markPages m 0 (length items / PAGE-SIZE + 1)) y r
+      → LeavesBoth (capacityCode (length image) (length marks) (roundUp (length items) PAGE-SIZE)) image new x marks
+      (markPages (replicate (length marks) 0) 0 (length items / PAGE-SIZE + 1)) y r
   unfolding unlessRefused
   items-done e f l d w =
-      let u : a ≡ roundUp (length items) 4096 = e ∙ align-exact (length items) 4096 (omega arith) (omega arith) in
+      let u : a ≡ roundUp (length items) PAGE-SIZE = e ∙ align-exact (length items) PAGE-SIZE (omega arith) (omega arith) in
       let z : capacityCode (length image) (length marks) a ≡ 0 = done-zero (capacityCode (length image) (length marks) a) (sym d ∙ l .says) in
       let c : m ≡ replicate (length marks) 0 = rw z at (l .leaves) in
       let n : length m ≡ length marks = rw c (length-replicate (length marks) 0) in
       let p : paddedWriteCode (length image) (length m) 0 (length items) ≡ 0 =
       rw n (capacity-room (length image) (length marks) (length items) (rw (← u) z)) in
-      let g : m ≡ replicate (length marks) 0 → y ≡ markPages m 0 (length items / 4096 + 1) → y ≡ markPages (replicate (length marks) 0) 0 (length items / 4096 + 1) = λ h k. rw (← h) k in
+      let g : m ≡ replicate (length marks) 0 → y ≡ markPages m 0 (length items / PAGE-SIZE + 1) → y ≡ markPages (replicate (length marks) 0) 0 (length items / PAGE-SIZE + 1) = λ h k. rw (← h) k in
       rw (← u, z) (record { says = rw p at (w .says); leaves = rw p at (w .leaves); leaves₂ = g c (rw p at (w .leaves₂)) })
 
-  pub items-refused : (k : ℕ) → a ≡ roundUp (length items) 4096 % 2 ^ 64 → length items * 1 < 2 ^ 63
+  pub items-refused : (k : ℕ) → a ≡ roundUp (length items) PAGE-SIZE % 2 ^ 64 → length items * 1 < 2 ^ 63
       → Leaves (capacityCode (length image) (length marks) a) marks (replicate (length marks) 0) m s → s ≡ Refused k
-      → LeavesBoth (capacityCode (length image) (length marks) (roundUp (length items) 4096)) image new image marks y m (Refused k)
+      → LeavesBoth (capacityCode (length image) (length marks) (roundUp (length items) PAGE-SIZE)) image new image marks y m (Refused k)
   items-refused k e f l d =
-      let u : a ≡ roundUp (length items) 4096 = e ∙ align-exact (length items) 4096 (omega arith) (omega arith) in
+      let u : a ≡ roundUp (length items) PAGE-SIZE = e ∙ align-exact (length items) PAGE-SIZE (omega arith) (omega arith) in
       let t : Refused k ≡ doneOf (capacityCode (length image) (length marks) a) = sym d ∙ l .says in
       rw (← u)
       (record {

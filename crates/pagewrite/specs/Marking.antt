@@ -3,7 +3,7 @@ use mathlib.Core.List.{List}
 use Prim.Native.Nat.{ℕ, zero, suc, _+_, _*_, _/_, _%_, _^_}
 use lib.Bits.{bitOr}
 use Rattle.le.specs.Le.{le, splice}
-use Rattle.pagemap.specs.Marks.{WORD-PAGES, WORD-BYTES, wordAt}
+use Rattle.marks.specs.Marks.{WORD-PAGES, WORD-BYTES, wordAt}
 
 -- the marks with page p's set
 unfoldable pub mark : List ℕ → ℕ → List ℕ

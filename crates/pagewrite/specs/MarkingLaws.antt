@@ -13,8 +13,8 @@ use lib.Pow.{pow-lt, pow-add, shl-shr}
 use borrow.Author.Tests.{eq-eqb, eqb-true, eqb-false, le-leb, lt-ltb, leb-true, ltb-true}
 use Rattle.util.specs.Pick.{yes-no, le-or-lt, and-left, and-right, and-both, not-both}
 use Rattle.le.specs.Le.{le, length-le, length-splice, get-splice, get-before, get-after, IsBytes, splice-bytes, le-bytes}
-use Rattle.pagemap.specs.Marks.{marked, wordAt}
-use Rattle.pagemap.specs.MarkLaws.{word-less}
+use Rattle.marks.specs.Marks.{WORD-PAGES, WORD-BYTES, marked, wordAt}
+use Rattle.marks.specs.MarkLaws.{word-less}
 use Rattle.pagewrite.specs.Marking.{mark, markPages}
 
 -- ---- the length is kept
@@ -30,7 +30,7 @@ length-pages m p (suc n) = length-mark (markPages m p n) (p + n) ∙ length-page
 -- ---- each element is a byte
 pub mark-bytes : (m : List ℕ) (p : ℕ) → IsBytes m → IsBytes (mark m p)
 unfolding mark
-mark-bytes m p b = splice-bytes m (8 * (p / 64)) (le 8 (bitOr (wordAt m (p / 64)) (2 ^ (p % 64)))) b (le-bytes 8 (bitOr (wordAt m (p / 64)) (2 ^ (p % 64))))
+mark-bytes m p b = splice-bytes m (WORD-BYTES * (p / WORD-PAGES)) (le WORD-BYTES (bitOr (wordAt m (p / WORD-PAGES)) (2 ^ (p % WORD-PAGES)))) b (le-bytes WORD-BYTES (bitOr (wordAt m (p / WORD-PAGES)) (2 ^ (p % WORD-PAGES))))
 
 pub pages-bytes : (m : List ℕ) (p n : ℕ) → IsBytes m → IsBytes (markPages m p n)
 unfolding markPages
@@ -54,35 +54,35 @@ bit-other i j n =
     (le-or-lt i j)
 
 -- ---- a mark that is set is there, and no other has changed; page p's word must lie within the marks
-module _ (m : List ℕ) (p : ℕ) (b : IsBytes m) (within : 8 * (p / 64) + 8 ≤ length m) where
-  word-marked : wordAt (mark m p) (p / 64) ≡ bitOr (wordAt m (p / 64)) (2 ^ (p % 64))
+module _ (m : List ℕ) (p : ℕ) (b : IsBytes m) (within : WORD-BYTES * (p / WORD-PAGES) + WORD-BYTES ≤ length m) where
+  word-marked : wordAt (mark m p) (p / WORD-PAGES) ≡ bitOr (wordAt m (p / WORD-PAGES)) (2 ^ (p % WORD-PAGES))
   unfolding mark
   word-marked =
-      get-splice 8 (bitOr (wordAt m (p / 64)) (2 ^ (p % 64))) m (8 * (p / 64)) within
-      (or-lt 64 (wordAt m (p / 64)) (2 ^ (p % 64)) (word-less m (p / 64) b) (pow-lt (mod-lt p (omega arith))))
+      get-splice WORD-BYTES (bitOr (wordAt m (p / WORD-PAGES)) (2 ^ (p % WORD-PAGES))) m (WORD-BYTES * (p / WORD-PAGES)) within
+      (or-lt WORD-PAGES (wordAt m (p / WORD-PAGES)) (2 ^ (p % WORD-PAGES)) (word-less m (p / WORD-PAGES) b) (pow-lt (mod-lt p (omega arith))))
 
-  word-kept : (w : ℕ) → (w ≡ p / 64 → ⊥) → wordAt (mark m p) w ≡ wordAt m w
+  word-kept : (w : ℕ) → (w ≡ p / WORD-PAGES → ⊥) → wordAt (mark m p) w ≡ wordAt m w
   unfolding mark
   word-kept w n =
       ⊎-elim
-      (λ (h : w ≤ p / 64). get-before 8 m (8 * (p / 64)) (le 8 (bitOr (wordAt m (p / 64)) (2 ^ (p % 64)))) (8 * w) (omega arith))
-      (λ (h : p / 64 < w). get-after 8 m (8 * (p / 64)) (le 8 (bitOr (wordAt m (p / 64)) (2 ^ (p % 64)))) (8 * w) (rw length-le (omega arith)))
-      (le-or-lt w (p / 64))
+      (λ (h : w ≤ p / WORD-PAGES). get-before WORD-BYTES m (WORD-BYTES * (p / WORD-PAGES)) (le WORD-BYTES (bitOr (wordAt m (p / WORD-PAGES)) (2 ^ (p % WORD-PAGES)))) (WORD-BYTES * w) (omega arith))
+      (λ (h : p / WORD-PAGES < w). get-after WORD-BYTES m (WORD-BYTES * (p / WORD-PAGES)) (le WORD-BYTES (bitOr (wordAt m (p / WORD-PAGES)) (2 ^ (p % WORD-PAGES)))) (WORD-BYTES * w) (rw length-le (omega arith)))
+      (le-or-lt w (p / WORD-PAGES))
 
   pub mark-there : marked (mark m p) p ≡ true
   unfolding marked
-  mark-there = rw (word-marked, bit-or, bit-same) (eq-eqb (max (wordAt m (p / 64) / 2 ^ (p % 64) % 2) 1) 1 (omega arith))
+  mark-there = rw (word-marked, bit-or, bit-same) (eq-eqb (max (wordAt m (p / WORD-PAGES) / 2 ^ (p % WORD-PAGES) % 2) 1) 1 (omega arith))
 
   pub mark-other : (q : ℕ) → (q ≡ p → ⊥) → marked (mark m p) q ≡ marked m q
   unfolding marked
   mark-other q n =
       ⊎-elim
       (λ t.
-      let e : q / 64 ≡ p / 64 = eqb-true (q / 64) (p / 64) t in
-      let g : max (wordAt m (p / 64) / 2 ^ (q % 64) % 2) 0 ≡ wordAt m (p / 64) / 2 ^ (q % 64) % 2 = omega arith in
-      rw (e, word-marked, bit-or, bit-other (q % 64) (p % 64) (λ z. n (omega arith)), g))
-      (λ t. rw (word-kept (q / 64) (eqb-false (q / 64) (p / 64) t)))
-      (yes-no (eqb (q / 64) (p / 64)))
+      let e : q / WORD-PAGES ≡ p / WORD-PAGES = eqb-true (q / WORD-PAGES) (p / WORD-PAGES) t in
+      let g : max (wordAt m (p / WORD-PAGES) / 2 ^ (q % WORD-PAGES) % 2) 0 ≡ wordAt m (p / WORD-PAGES) / 2 ^ (q % WORD-PAGES) % 2 = omega arith in
+      rw (e, word-marked, bit-or, bit-other (q % WORD-PAGES) (p % WORD-PAGES) (λ z. n (omega arith)), g))
+      (λ t. rw (word-kept (q / WORD-PAGES) (eqb-false (q / WORD-PAGES) (p / WORD-PAGES) t)))
+      (yes-no (eqb (q / WORD-PAGES) (p / WORD-PAGES)))
 
   -- the two in one
   pub marked-mark : (q : ℕ) → marked (mark m p) q ≡ eqb q p || marked m q
@@ -94,30 +94,30 @@ module _ (m : List ℕ) (p : ℕ) (b : IsBytes m) (within : 8 * (p / 64) + 8 ≤
 
 -- ---- the same of n pages from p, all of which have their marks there
 module _ (m : List ℕ) (p : ℕ) (b : IsBytes m) where
-  pub pages-there : (n q : ℕ) → p + n ≤ 64 * (length m / 8) → p ≤ q → q < p + n → marked (markPages m p n) q ≡ true
+  pub pages-there : (n q : ℕ) → p + n ≤ WORD-PAGES * (length m / WORD-BYTES) → p ≤ q → q < p + n → marked (markPages m p n) q ≡ true
   unfolding markPages
   pages-there zero q l h k = absurd (omega arith)
   pages-there (suc n) q l h k =
       let e : length (markPages m p n) ≡ length m = length-pages m p n in
-      let f : 8 * ((p + n) / 64) + 8 ≤ length (markPages m p n) = rw e (omega arith) in
+      let f : WORD-BYTES * ((p + n) / WORD-PAGES) + WORD-BYTES ≤ length (markPages m p n) = rw e (omega arith) in
       ⊎-elim
       (λ (z : q ≡ p + n). rw z (mark-there (markPages m p n) (p + n) (pages-bytes m p n b) f))
       (λ (z : q < p + n).
       mark-other (markPages m p n) (p + n) (pages-bytes m p n b) f q (λ y. omega arith) ∙ pages-there n q (omega arith) h z)
       (eq-or-lt-of-le (omega arith))
 
-  pub pages-other : (n q : ℕ) → (0 < n → p + n ≤ 64 * (length m / 8)) → (p ≤ q → q < p + n → ⊥) → marked (markPages m p n) q ≡ marked m q
+  pub pages-other : (n q : ℕ) → (0 < n → p + n ≤ WORD-PAGES * (length m / WORD-BYTES)) → (p ≤ q → q < p + n → ⊥) → marked (markPages m p n) q ≡ marked m q
   unfolding markPages
   pages-other zero q l o = refl
   pages-other (suc n) q l o =
       let e : length (markPages m p n) ≡ length m = length-pages m p n in
-      let k : p + suc n ≤ 64 * (length m / 8) = l (omega arith) in
-      let f : 8 * ((p + n) / 64) + 8 ≤ length (markPages m p n) = rw e (omega arith) in
+      let k : p + suc n ≤ WORD-PAGES * (length m / WORD-BYTES) = l (omega arith) in
+      let f : WORD-BYTES * ((p + n) / WORD-PAGES) + WORD-BYTES ≤ length (markPages m p n) = rw e (omega arith) in
       mark-other (markPages m p n) (p + n) (pages-bytes m p n b) f q (λ z. o (omega arith) (omega arith))
       ∙ pages-other n q (λ z. omega arith) (λ x y. o x (omega arith))
 
   -- the two in one
-  pub marked-pages : (n q : ℕ) → (0 < n → p + n ≤ 64 * (length m / 8)) → marked (markPages m p n) q ≡ (leb p q && ltb q (p + n)) || marked m q
+  pub marked-pages : (n q : ℕ) → (0 < n → p + n ≤ WORD-PAGES * (length m / WORD-BYTES)) → marked (markPages m p n) q ≡ (leb p q && ltb q (p + n)) || marked m q
   marked-pages n q l =
       ⊎-elim
       (λ t.

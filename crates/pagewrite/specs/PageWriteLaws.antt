@@ -8,10 +8,11 @@ use native.Mathlib.Omega.{arith}
 use lib.ListN.{length, replicate, getD, length-append, length-replicate}
 use lib.Dec.{eqb}
 use borrow.Author.Tests.{leb-true, eqb-true, ne-eqb}
-use Rattle.util.specs.Pick.{pick, le-or-lt, passed, passed-on}
+use Rattle.util.specs.Pick.{pick, le-or-lt, head-passes, rest-passes}
 use Rattle.arch.specs.Page.{PAGE-SIZE, pageOf, onPage}
 use Rattle.refusal.specs.Refusal.{NOT-MAPPED, NOT-ON-A-PAGE, NOT-WHOLE-PAGES}
 use Rattle.le.specs.Le.{part, splice, part-none, part-splice, splice-out, IsBytes}
+use Rattle.marks.specs.Marks.{WORD-PAGES, WORD-BYTES}
 use Rattle.pagemap.specs.Pages.{storageOk, mapped, spanMapped, readCode}
 use Rattle.pagemap.specs.PageLaws.{mapped-of, span-of, storage-marks}
 use Rattle.pagewrite.specs.Marking.{markPages}
@@ -46,26 +47,26 @@ startCode o rest = pick (onPage o) rest NOT-ON-A-PAGE
 module _ (size marks o n : ℕ) where
   fits-from : (k rest : ℕ) → pick (storageOk size marks) (startCode o rest) 13 ≡ 0 → (rest ≡ 0 → lentCode size o k ≡ 0) → PagesFit size marks o k
   fits-from k rest e f =
-      let s = passed-on (storageOk size marks) (startCode o rest) 13 e (λ z. omega arith) in
-      let r = passed-on (onPage o) rest 16 s (λ z. omega arith) in
+      let s = rest-passes (storageOk size marks) (startCode o rest) 13 e (λ z. omega arith) in
+      let r = rest-passes (onPage o) rest 16 s (λ z. omega arith) in
       record {
-        storage = passed (storageOk size marks) (startCode o rest) 13 e (λ z. omega arith);
-        start = eqb-true (o % PAGE-SIZE) 0 (passed (onPage o) rest 16 s (λ z. omega arith));
-        inside = lent-in size o k (passed (pagesLent size o k) 0 15 (f r) (λ z. omega arith));
+        storage = head-passes (storageOk size marks) (startCode o rest) 13 e (λ z. omega arith);
+        start = eqb-true (o % PAGE-SIZE) 0 (head-passes (onPage o) rest 16 s (λ z. omega arith));
+        inside = lent-in size o k (head-passes (pagesLent size o k) 0 15 (f r) (λ z. omega arith));
       }
 
   module _ (e : pageWriteCode size marks o n ≡ 0) where
     pub write-whole : n ≡ wholePages n * PAGE-SIZE
     unfolding pageWriteCode
     write-whole =
-        let s = passed-on (storageOk size marks) (startCode o (wholeCode size o n)) 13 e (λ z. omega arith) in
-        let w = passed-on (onPage o) (wholeCode size o n) 16 s (λ z. omega arith) in
-        let h = eqb-true (n % PAGE-SIZE) 0 (passed (onPage n) (lentCode size o (wholePages n)) 17 w (λ z. omega arith)) in
+        let s = rest-passes (storageOk size marks) (startCode o (wholeCode size o n)) 13 e (λ z. omega arith) in
+        let w = rest-passes (onPage o) (wholeCode size o n) 16 s (λ z. omega arith) in
+        let h = eqb-true (n % PAGE-SIZE) 0 (head-passes (onPage n) (lentCode size o (wholePages n)) 17 w (λ z. omega arith)) in
         omega arith
 
     pub write-fits : PagesFit size marks o (wholePages n)
     unfolding pageWriteCode
-    write-fits = fits-from (wholePages n) (wholeCode size o n) e (λ w. passed-on (onPage n) (lentCode size o (wholePages n)) 17 w (λ z. omega arith))
+    write-fits = fits-from (wholePages n) (wholeCode size o n) e (λ w. rest-passes (onPage n) (lentCode size o (wholePages n)) 17 w (λ z. omega arith))
 
   pub padded-fits : paddedWriteCode size marks o n ≡ 0 → PagesFit size marks o (paddedPages n)
   unfolding paddedWriteCode
@@ -76,7 +77,7 @@ unfolding padded
 length-padded items = simp (length-append, length-replicate) (omega arith)
 
 -- ---- what stands after vs was written at o and n pages were marked: vs is read back and the rest is as it was; the pages of vs are mapped and the others as they were
-pub record Written (image marks vs : List ℕ) (o n : ℕ) : Type 0 where
+pub record PageWritten (image marks vs : List ℕ) (o n : ℕ) : Type 0 where
   pub there : part (splice image o vs) o (length vs) ≡ vs
   pub around : (k : ℕ) → (o ≤ k → k < o + length vs → ⊥) → getD (splice image o vs) k 0 ≡ getD image k 0
   pub mapped-there : 0 < length vs → spanMapped (length image) (markPages marks (pageOf o) n) o (length vs) ≡ true
@@ -85,7 +86,7 @@ pub record Written (image marks vs : List ℕ) (o n : ℕ) : Type 0 where
 
 module _ (image marks vs : List ℕ) (o n : ℕ) (f : PagesFit (length image) (length marks) o n) (b : IsBytes marks) (l : length vs ≡ n * PAGE-SIZE) where
   -- the pages have their marks
-  has-marks : 0 < n → pageOf o + n ≤ 64 * (length marks / 8)
+  has-marks : 0 < n → pageOf o + n ≤ WORD-PAGES * (length marks / WORD-BYTES)
   has-marks h =
       let s = storage-marks (length image) (length marks) (f .storage) in
       let i = f .inside h in
@@ -124,7 +125,7 @@ module _ (image marks vs : List ℕ) (o n : ℕ) (f : PagesFit (length image) (l
       let a = f .start in
       rw (pages-other marks (pageOf o) b n (pageOf k) has-marks (λ x y. h (omega arith) (omega arith)))
 
-  pub written : Written image marks vs o n
+  pub written : PageWritten image marks vs o n
   written = record {
     there = wrote-there;
     around = wrote-around;
@@ -135,17 +136,17 @@ module _ (image marks vs : List ℕ) (o n : ℕ) (f : PagesFit (length image) (l
 
 -- after a page write, an empty map and a padded write that are not refused
 module _ (image marks : List ℕ) (o : ℕ) (b : IsBytes marks) where
-  pub after-write : (items : List ℕ) → pageWriteCode (length image) (length marks) o (length items) ≡ 0 → Written image marks items o (wholePages (length items))
+  pub after-write : (items : List ℕ) → pageWriteCode (length image) (length marks) o (length items) ≡ 0 → PageWritten image marks items o (wholePages (length items))
   after-write items e =
       written image marks items o (wholePages (length items)) (write-fits (length image) (length marks) o (length items) e) b
       (write-whole (length image) (length marks) o (length items) e)
 
-  pub after-empty-map : (n : ℕ) → pageWriteCode (length image) (length marks) o n ≡ 0 → Written image marks (replicate n 0) o (wholePages n)
+  pub after-empty-map : (n : ℕ) → pageWriteCode (length image) (length marks) o n ≡ 0 → PageWritten image marks (replicate n 0) o (wholePages n)
   after-empty-map n e =
       written image marks (replicate n 0) o (wholePages n) (write-fits (length image) (length marks) o n e) b
       (length-replicate n 0 ∙ write-whole (length image) (length marks) o n e)
 
   pub after-padded : (items : List ℕ) → paddedWriteCode (length image) (length marks) o (length items) ≡ 0
-      → Written image marks (padded items) o (paddedPages (length items))
+      → PageWritten image marks (padded items) o (paddedPages (length items))
   after-padded items e =
       written image marks (padded items) o (paddedPages (length items)) (padded-fits (length image) (length marks) o (length items) e) b (length-padded items)

@@ -10,8 +10,7 @@ use codes::page_write_code;
 use marking::mark_pages;
 use refusal::Answer;
 ghost use mathlib.Core.Path.{_≡_};
-ghost use lib.ListN.{length, replicate};
-ghost use lib.ListN.{set as List·set};
+ghost use lib.ListN.{length, replicate, set as List·set};
 ghost use Rattle.util.specs.Align.{roundUp};
 ghost use Rattle.arch.specs.Page.{PAGE-SIZE, pageOf};
 ghost use Rattle.le.specs.Le.{splice};
@@ -25,7 +24,7 @@ pub fn set(image: &mut [u8], marks: &[u8], rva: RVA, v: u8) -> Answer
     ensures { λ r. ⌜ Leaves (readCode (length (now (image .entry))) (now (marks .entry)) (rva .0) 1)
         (now (image .entry)) (List·set (now (image .entry)) (rva .0) v) (now (image .exit)) r ⌝ }
 {
-    let code = pagemap::read_code(image.len() as u64, marks, rva.0, 1);
+    let code = pagemap::read_code(image.len() as u64, marks, rva, 1);
     if code == 0 {
         let at = rva.0 as usize;
         image[at] = v;
@@ -42,7 +41,7 @@ pub fn write(image: &mut [u8], marks: &mut [u8], rva: RVA, items: &[u8]) -> Answ
         (now (marks .entry)) (markPages (now (marks .entry)) (pageOf (rva .0)) (wholePages (length (now (items .entry))))) (now (marks .exit)) r ⌝ }
 {
     let n = items.len() as u64;
-    let code = page_write_code(image.len() as u64, marks.len() as u64, rva.0, n);
+    let code = page_write_code(image.len() as u64, marks.len() as u64, rva, n);
     if code == 0 {
         le::copy(image, rva.0 as usize, items);
         mark_pages(marks, rva.0 / PAGE_SIZE, n / PAGE_SIZE);
@@ -58,7 +57,7 @@ pub fn map_empty(image: &mut [u8], marks: &mut [u8], rva: RVA, size: u64) -> Ans
         (now (image .entry)) (splice (now (image .entry)) (rva .0) (replicate size 0)) (now (image .exit))
         (now (marks .entry)) (markPages (now (marks .entry)) (pageOf (rva .0)) (wholePages size)) (now (marks .exit)) r ⌝ }
 {
-    let code = page_write_code(image.len() as u64, marks.len() as u64, rva.0, size);
+    let code = page_write_code(image.len() as u64, marks.len() as u64, rva, size);
     if code == 0 {
         le::zero(image, rva.0 as usize, size as usize);
         mark_pages(marks, rva.0 / PAGE_SIZE, size / PAGE_SIZE);
@@ -75,7 +74,7 @@ pub fn writezx(image: &mut [u8], marks: &mut [u8], rva: RVA, items: &[u8]) -> An
         (now (marks .entry)) (markPages (now (marks .entry)) (pageOf (rva .0)) (paddedPages (length (now (items .entry))))) (now (marks .exit)) r ⌝ }
 {
     let n = items.len() as u64;
-    let code = padded_write_code(image.len() as u64, marks.len() as u64, rva.0, n);
+    let code = padded_write_code(image.len() as u64, marks.len() as u64, rva, n);
     if code == 0 {
         let at = rva.0 as usize;
         le::copy(image, at, items);
@@ -94,7 +93,7 @@ pub fn with_capacity(image: &[u8], marks: &mut [u8], capacity: RVA) -> Answer
         (now (marks .entry)) (replicate (length (now (marks .entry))) 0) (now (marks .exit)) r ⌝ }
 {
     let n = marks.len();
-    let code = capacity_code(image.len() as u64, n as u64, capacity.0);
+    let code = capacity_code(image.len() as u64, n as u64, capacity);
     if code == 0 {
         le::zero(marks, 0, n);
         Answer::Done

@@ -1,6 +1,6 @@
 // The marks of pages that are mapped: one bit each.
-use pagemap::WORD_BYTES;
-use pagemap::WORD_PAGES;
+use marks::WORD_BYTES;
+use marks::WORD_PAGES;
 ghost use mathlib.Core.Path.{_≡_};
 ghost use Prim.Native.Nat.{_+_, _<_, _^_};
 ghost use Rattle.pagewrite.specs.Marking.{mark, markPages};
@@ -14,6 +14,7 @@ fn mark(marks: &mut [u8], p: u64)
     le::put_u64(marks, at, word | (1 << (p % WORD_PAGES)));
 }
 
+// Sets the bits of the n pages from p on.
 pub(crate) fn mark_pages(marks: &mut [u8], p: u64, n: u64)
     requires { ⌜ p + n < 2 ^ 64 ⌝ }
     ensures { λ _. ⌜ now (marks .exit) ≡ markPages (now (marks .entry)) p n ⌝ }

@@ -1,68 +1,56 @@
 -- The ways through the code. Assumes nothing.
 use mathlib.Core.Path.{_≡_, refl, sym, ap, _∙_}
-use mathlib.Core.Bool.{Bool, true, false}
+use mathlib.Core.Bool.{Bool, true, false, _&&_}
 use mathlib.Core.List.{List}
-use Prim.Native.Nat.{ℕ, zero, suc, _+_, _-_, _%_, _≤_, max}
+use Prim.Native.Nat.{ℕ, zero, suc, _+_, _-_, _%_, _^_, _≤_, max}
 use native.Mathlib.Omega.{arith}
 use lib.Dec.{eqb, leb}
 use lib.ListN.{length}
 use borrow.Author.Tests.{ne-eqb, leb-true}
-use Rattle.util.specs.Pick.{pick, passed}
+use Rattle.util.specs.Pick.{pick, head-passes}
 use Rattle.le.specs.Le.{le, splice, le-low}
 use Rattle.refusal.specs.Refusal.{new-is, old-is}
 use Rattle.pagemap.specs.Pages.{storageOk}
 use Rattle.aspace.specs.Space.{spanAt}
 use Rattle.patch.specs.declared.answer.Patch.the-variants.{Applied, Refused}
-use Rattle.patch.specs.Fixes.{fixCount, placeAt, bitsAt, valueAt, widthOf, knownBits, fixOk, fixed, fixedFrom, length-from}
+use Rattle.patch.specs.Fixes.{NARROW, NARROW-BYTES, WIDE-BYTES, fixCount, placeAt, bitsAt, valueAt, widthOf, knownBits, fixOk, fixed, fixedFrom, length-from}
 use Rattle.patch.specs.Patch.{portion, portionOk, patchCode, answerOf, patchAnswer, Patches}
 
 -- ---- bits
 module _ (bits : ℕ) where
-  pub width-32 : bits ≡ 32 → 4 ≡ widthOf bits
+  pub width-narrow : bits ≡ NARROW → NARROW-BYTES ≡ widthOf bits
   unfolding pick
-  width-32 e = rw e
+  width-narrow e = rw e
 
-  pub width-64 : (bits ≡ 32 → ⊥) → 8 ≡ widthOf bits
+  pub width-wide : (bits ≡ NARROW → ⊥) → WIDE-BYTES ≡ widthOf bits
   unfolding pick
-  width-64 e = rw (ne-eqb bits 32 e)
+  width-wide e = rw (ne-eqb bits NARROW e)
 
-  pub known-32 : bits ≡ 32 → true ≡ knownBits bits
-  known-32 e = rw e
-
-  pub known-other : (bits ≡ 32 → ⊥) → eqb bits 64 ≡ knownBits bits
-  known-other e = rw (ne-eqb bits 32 e)
-
-pub ruleset bits-ways = (width-32, width-64, known-32, known-other)
+pub ruleset width-ways = (width-narrow, width-wide)
 
 -- ---- one fixup
-module _ (size : ℕ) (marks : List ℕ) (base : ℕ) (fixes : List ℕ) (k bits : ℕ) (b : Bool) (is : bits ≡ bitsAt fixes k) (known : b ≡ knownBits bits) where
-  pub fix-yes : (place w : ℕ) (r : Bool) → b ≡ true → place ≡ placeAt fixes k → w ≡ widthOf bits → r ≡ spanAt size marks base place w → r ≡ fixOk size marks base fixes k
-  unfolding fixOk
-  fix-yes place w r e p q x = rw (← is, ← known, e, ← p, ← q) x
-
-  pub fix-no : b ≡ false → false ≡ fixOk size marks base fixes k
-  unfolding fixOk
-  fix-no e = rw (← is, ← known, e)
-
-pub ruleset fix-ways = (fix-yes, fix-no)
+pub fix-is : (size : ℕ) (marks : List ℕ) (base : ℕ) (fixes : List ℕ) (k bits place w : ℕ) (r a m : Bool) → r ≡ (a && m) → a ≡ knownBits bits → m ≡ spanAt size marks base place w
+    → bits ≡ bitsAt fixes k → place ≡ placeAt fixes k → w ≡ widthOf bits → r ≡ fixOk size marks base fixes k
+unfolding fixOk
+fix-is size marks base fixes k bits place w r a m e known mapped b p q = rw (← b, ← known, ← p, ← q, ← mapped) e
 
 module _ (base : ℕ) (fixes : List ℕ) (k : ℕ) (image after : List ℕ) (place m value bits : ℕ)
     (at : place ≡ placeAt fixes k) (top : m ≡ max place base) (is : value ≡ valueAt fixes k) (wide : bits ≡ bitsAt fixes k) where
   spot : m - base ≡ placeAt fixes k - base
   spot = rw (← at) (omega arith)
 
-  pub applied-32 : eqb bits 32 ≡ true → after ≡ splice image (m - base) (le 4 (value % 4294967296)) → after ≡ fixed base fixes image k
+  pub applied-narrow : eqb bits NARROW ≡ true → after ≡ splice image (m - base) (le NARROW-BYTES (value % 2 ^ 32)) → after ≡ fixed base fixes image k
   unfolding fixed pick
-  applied-32 e x = rw (← wide, e, ← is, ← spot, ← le-low 4 value) x
+  applied-narrow e x = rw (← wide, e, ← is, ← spot, ← le-low NARROW-BYTES value) x
 
-  pub applied-64 : eqb bits 32 ≡ false → after ≡ splice image (m - base) (le 8 value) → after ≡ fixed base fixes image k
+  pub applied-wide : eqb bits NARROW ≡ false → after ≡ splice image (m - base) (le WIDE-BYTES value) → after ≡ fixed base fixes image k
   unfolding fixed pick
-  applied-64 e x = rw (← wide, e, ← is, ← spot) x
+  applied-wide e x = rw (← wide, e, ← is, ← spot) x
 
 pub not-below : (place m base : ℕ) → m ≡ max place base → base ≤ m
 not-below place m base e = omega arith
 
-pub ruleset apply-ways = (applied-32, applied-64, not-below)
+pub ruleset apply-ways = (applied-narrow, applied-wide, not-below)
 
 -- ---- the loop over a portion
 module _ (base : ℕ) (fixes image : List ℕ) (p : ℕ) where
@@ -117,7 +105,7 @@ pub ruleset code-ways = (portion-in, code-position, code-storage, code-mapped, c
 module _ (marks : List ℕ) (base : ℕ) (fixes image : List ℕ) (number position code : ℕ) (is : code ≡ patchCode (length image) marks base fixes number position) where
   pub inside-is : code ≡ 0 → (count : ℕ) → count ≡ fixCount fixes → position ≤ count
   unfolding patchCode
-  inside-is z count e = rw e (leb-true position (fixCount fixes) (passed (leb position (fixCount fixes)) _ 14 (sym is ∙ z) (λ q. omega arith)))
+  inside-is z count e = rw e (leb-true position (fixCount fixes) (head-passes (leb position (fixCount fixes)) _ 14 (sym is ∙ z) (λ q. omega arith)))
 
   pub patch-yes : code ≡ 0 → (count n : ℕ) (after : List ℕ) → count ≡ fixCount fixes → n ≡ portion count number position → after ≡ fixedFrom base fixes image position n
       → Patches base marks fixes number position image after (Applied (record { position = position + n; done = eqb (position + n) count }))

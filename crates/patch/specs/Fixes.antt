@@ -6,11 +6,29 @@ use Prim.Native.Nat.{ℕ, zero, suc, _+_, _-_, _*_, _/_}
 use lib.Dec.{eqb}
 use lib.ListN.{length}
 use Rattle.util.specs.Pick.{pick}
+use Rattle.limits.specs.Limits.{FIXUP-BYTES}
 use Rattle.le.specs.Le.{get, le, splice, length-splice}
 use Rattle.aspace.specs.Space.{spanAt}
 
-abbrev pub FIXUP-BYTES : ℕ
-FIXUP-BYTES = 24
+-- where a record has its bits and its value; its place stands first
+abbrev pub BITS-FIELD : ℕ
+BITS-FIELD = 8
+
+abbrev pub VALUE-FIELD : ℕ
+VALUE-FIELD = 16
+
+-- the bits of a narrow fixup and of a wide one, and the bytes that each covers
+abbrev pub NARROW : ℕ
+NARROW = 32
+
+abbrev pub WIDE : ℕ
+WIDE = 64
+
+abbrev pub NARROW-BYTES : ℕ
+NARROW-BYTES = 4
+
+abbrev pub WIDE-BYTES : ℕ
+WIDE-BYTES = 8
 
 -- whole records; what is left behind the last one is none
 abbrev pub fixCount : List ℕ → ℕ
@@ -21,19 +39,20 @@ abbrev pub placeAt : List ℕ → ℕ → ℕ
 placeAt fixes k = get 8 fixes (FIXUP-BYTES * k)
 
 abbrev pub bitsAt : List ℕ → ℕ → ℕ
-bitsAt fixes k = get 8 fixes (FIXUP-BYTES * k + 8)
+bitsAt fixes k = get 8 fixes (FIXUP-BYTES * k + BITS-FIELD)
 
 abbrev pub valueAt : List ℕ → ℕ → ℕ
-valueAt fixes k = get 8 fixes (FIXUP-BYTES * k + 16)
+valueAt fixes k = get 8 fixes (FIXUP-BYTES * k + VALUE-FIELD)
 
 -- the bytes that it covers
 abbrev pub widthOf : ℕ → ℕ
-widthOf bits = pick (eqb bits 32) 4 8
+widthOf bits = pick (eqb bits NARROW) NARROW-BYTES WIDE-BYTES
 
+-- a width that there is
 abbrev pub knownBits : ℕ → Bool
-knownBits bits = eqb bits 32 || eqb bits 64
+knownBits bits = eqb bits NARROW || eqb bits WIDE
 
--- it can be applied: 32 or 64 bits, and all its bytes are mapped
+-- it can be applied: its width is known, and all its bytes are mapped
 unfoldable pub fixOk : ℕ → List ℕ → ℕ → List ℕ → ℕ → Bool
 fixOk size marks base fixes k =
     knownBits (bitsAt fixes k) && spanAt size marks base (placeAt fixes k) (widthOf (bitsAt fixes k))

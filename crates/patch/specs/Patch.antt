@@ -22,7 +22,7 @@ portion count number position = min number (count - position)
 abbrev pub portionOk : ℕ → List ℕ → ℕ → List ℕ → ℕ → ℕ → Bool
 portionOk size marks base fixes p n = allTo (λ k. fixOk size marks base fixes (p + k)) n
 
--- 14, 13, 15
+-- what a portion is refused by: 14, 13, 15
 unfoldable pub patchCode : ℕ → List ℕ → ℕ → List ℕ → ℕ → ℕ → ℕ
 patchCode size marks base fixes number position =
     pick (leb position (fixCount fixes))
@@ -35,18 +35,21 @@ patchCode size marks base fixes number position =
 abbrev pub progress : ℕ → ℕ → Progress
 progress count p = record { position = p; done = eqb p count }
 
+-- the answer by the code and the progress
 unfoldable pub answerOf : ℕ → Progress → Patch
 answerOf zero p = Applied p
 answerOf (suc k) p = Refused (suc k)
 
--- the answer by the code; the image, which a refusal leaves as it was
+-- the answer of a portion, by the code
 abbrev pub patchAnswer : ℕ → ℕ → ℕ → ℕ → Patch
 patchAnswer code count number position = answerOf code (progress count (position + portion count number position))
 
+-- the image after it, which a refusal leaves as it was
 abbrev pub patched : ℕ → ℕ → List ℕ → List ℕ → ℕ → ℕ → List ℕ
 patched code base fixes image number position =
     unlessRefused code (fixedFrom base fixes image position (portion (fixCount fixes) number position)) image
 
+-- the two in one
 pub record PatchIs (code base : ℕ) (fixes : List ℕ) (number position : ℕ) (image image′ : List ℕ) (r : Patch) : Type 0 where
   pub says : r ≡ patchAnswer code (fixCount fixes) number position
   pub leaves : image′ ≡ patched code base fixes image number position

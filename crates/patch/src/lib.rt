@@ -4,66 +4,87 @@ mod answer;
 pub use answer::Patch;
 pub use answer::Progress;
 use arch::VA;
+use limits::FIXUP_BYTES;
 ghost use mathlib.Core.Path.{_≡_};
 ghost use Prim.Native.Nat.{_+_, _<_, _≤_};
 ghost use Rattle.patch.specs.Fixes.{fixCount, placeAt, bitsAt, valueAt, widthOf, knownBits, fixOk, fixed, fixedFrom};
 ghost use Rattle.patch.specs.Patch.{portion, portionOk, patchCode, Patches};
 
+// Where a record has its bits and its value; its place stands first.
+const BITS_FIELD: usize = 8;
+
+const VALUE_FIELD: usize = 16;
+
+// The bits of a narrow fixup and of a wide one, and the bytes that each covers.
+const NARROW: u64 = 32;
+
+const WIDE: u64 = 64;
+
+const NARROW_BYTES: u64 = 4;
+
+const WIDE_BYTES: u64 = 8;
+
 // The records of a fix list.
 pub fn fix_count(fixes: &[u8]) -> u64
     ensures { λ r. ⌜ r ≡ fixCount (now (fixes .entry)) ⌝ }
 {
-    (fixes.len() / 24) as u64
+    (fixes.len() / FIXUP_BYTES) as u64
 }
 
-fn place_at(fixes: &[u8], k: u64) -> u64
+// Record k: the address of its place, its bits, its value.
+fn place_at(fixes: &[u8], k: u64) -> VA
     requires { ⌜ k < fixCount (now fixes) ⌝ }
-    ensures { λ r. ⌜ r ≡ placeAt (now (fixes .entry)) k ⌝ }
+    ensures { λ r. ⌜ r .0 ≡ placeAt (now (fixes .entry)) k ⌝ }
 {
-    le::u64_at(fixes, (24 * k) as usize)
+    VA(le::u64_at(fixes, FIXUP_BYTES * (k as usize)))
 }
 
 fn bits_at(fixes: &[u8], k: u64) -> u64
     requires { ⌜ k < fixCount (now fixes) ⌝ }
     ensures { λ r. ⌜ r ≡ bitsAt (now (fixes .entry)) k ⌝ }
 {
-    le::u64_at(fixes, (24 * k + 8) as usize)
+    le::u64_at(fixes, FIXUP_BYTES * (k as usize) + BITS_FIELD)
 }
 
 fn value_at(fixes: &[u8], k: u64) -> u64
     requires { ⌜ k < fixCount (now fixes) ⌝ }
     ensures { λ r. ⌜ r ≡ valueAt (now (fixes .entry)) k ⌝ }
 {
-    le::u64_at(fixes, (24 * k + 16) as usize)
+    le::u64_at(fixes, FIXUP_BYTES * (k as usize) + VALUE_FIELD)
 }
 
+// The bytes that it covers.
 fn width_of(bits: u64) -> u64
     ensures { λ r. ⌜ r ≡ widthOf bits ⌝ }
 {
-    if bits == 32 { 4 } else { 8 }
-}
-
-fn known_bits(bits: u64) -> bool
-    ensures { λ r. ⌜ r ≡ knownBits bits ⌝ }
-{
-    if bits == 32 { true } else { bits == 64 }
-}
-
-fn fix_ok(size: u64, marks: &[u8], base: u64, fixes: &[u8], k: u64) -> bool
-    requires { ⌜ k < fixCount (now fixes) ⌝ }
-    ensures { λ r. ⌜ r ≡ fixOk size (now (marks .entry)) base (now (fixes .entry)) k ⌝ }
-{
-    let bits = bits_at(fixes, k);
-    if known_bits(bits) {
-        aspace::absolute::span_at(size, marks, base, place_at(fixes, k), width_of(bits))
+    if bits == NARROW {
+        NARROW_BYTES
     } else {
-        false
+        WIDE_BYTES
     }
 }
 
-fn portion_ok(size: u64, marks: &[u8], base: u64, fixes: &[u8], p: u64, n: u64) -> bool
+// A width that there is.
+fn known_bits(bits: u64) -> bool
+    ensures { λ r. ⌜ r ≡ knownBits bits ⌝ }
+{
+    util::either(bits == NARROW, bits == WIDE)
+}
+
+// Fixup k can be applied: its width is known, and all its bytes are mapped.
+fn fix_ok(size: u64, marks: &[u8], base: VA, fixes: &[u8], k: u64) -> bool
+    requires { ⌜ k < fixCount (now fixes) ⌝ }
+    ensures { λ r. ⌜ r ≡ fixOk size (now (marks .entry)) (base .0) (now (fixes .entry)) k ⌝ }
+{
+    let bits = bits_at(fixes, k);
+    let mapped = aspace::absolute::span_at(size, marks, base, place_at(fixes, k), width_of(bits));
+    util::both(known_bits(bits), mapped)
+}
+
+// Each of the n fixups from p on can be applied.
+fn portion_ok(size: u64, marks: &[u8], base: VA, fixes: &[u8], p: u64, n: u64) -> bool
     requires { ⌜ p + n ≤ fixCount (now fixes) ⌝ }
-    ensures { λ r. ⌜ r ≡ portionOk size (now (marks .entry)) base (now (fixes .entry)) p n ⌝ }
+    ensures { λ r. ⌜ r ≡ portionOk size (now (marks .entry)) (base .0) (now (fixes .entry)) p n ⌝ }
 {
     let mut i: u64 = 0;
     while i < n {
@@ -76,13 +97,13 @@ fn portion_ok(size: u64, marks: &[u8], base: u64, fixes: &[u8], p: u64, n: u64) 
 }
 
 // The fixup's bytes go to its place.
-fn apply(base: u64, fixes: &[u8], k: u64, image: &mut [u8])
+fn apply(base: VA, fixes: &[u8], k: u64, image: &mut [u8])
     requires { ⌜ k < fixCount (now fixes) ⌝ }
-    ensures { λ _. ⌜ now (image .exit) ≡ fixed base (now (fixes .entry)) (now (image .entry)) k ⌝ }
+    ensures { λ _. ⌜ now (image .exit) ≡ fixed (base .0) (now (fixes .entry)) (now (image .entry)) k ⌝ }
 {
-    let at = (util::most(place_at(fixes, k), base) - base) as usize;
+    let at = (util::most(place_at(fixes, k).0, base.0) - base.0) as usize;
     let value = value_at(fixes, k);
-    let narrow = bits_at(fixes, k) == 32;
+    let narrow = bits_at(fixes, k) == NARROW;
     if narrow {
         let low = (value % 0x100000000) as u32;
         le::put_u32(image, at, low);
@@ -91,9 +112,10 @@ fn apply(base: u64, fixes: &[u8], k: u64, image: &mut [u8])
     }
 }
 
-fn apply_portion(base: u64, fixes: &[u8], p: u64, n: u64, image: &mut [u8])
+// Those of the n fixups from p on, in list order.
+fn apply_portion(base: VA, fixes: &[u8], p: u64, n: u64, image: &mut [u8])
     requires { ⌜ p + n ≤ fixCount (now fixes) ⌝ }
-    ensures { λ _. ⌜ now (image .exit) ≡ fixedFrom base (now (fixes .entry)) (now (image .entry)) p n ⌝ }
+    ensures { λ _. ⌜ now (image .exit) ≡ fixedFrom (base .0) (now (fixes .entry)) (now (image .entry)) p n ⌝ }
 {
     let mut k: u64 = 0;
     while k < n {
@@ -102,6 +124,7 @@ fn apply_portion(base: u64, fixes: &[u8], p: u64, n: u64, image: &mut [u8])
     }
 }
 
+// How many fixups a portion has: as many as asked for, or all that are left.
 fn portion_of(count: u64, number: u64, position: u64) -> u64
     requires { ⌜ position ≤ count ⌝ }
     ensures { λ r. ⌜ r ≡ portion count number position ⌝ }
@@ -111,8 +134,8 @@ fn portion_of(count: u64, number: u64, position: u64) -> u64
 }
 
 // 14, 13 and 15, all before the first byte is written.
-fn patch_code(size: u64, marks: &[u8], base: u64, fixes: &[u8], number: u64, position: u64) -> u64
-    ensures { λ r. ⌜ r ≡ patchCode size (now (marks .entry)) base (now (fixes .entry)) number position ⌝ }
+fn patch_code(size: u64, marks: &[u8], base: VA, fixes: &[u8], number: u64, position: u64) -> u64
+    ensures { λ r. ⌜ r ≡ patchCode size (now (marks .entry)) (base .0) (now (fixes .entry)) number position ⌝ }
 {
     let count = fix_count(fixes);
     let inside = position <= count;
@@ -149,11 +172,11 @@ pub fn patch(
 ) -> Patch
     ensures { λ r. ⌜ Patches (base .0) (now (marks .entry)) (now (fixes .entry)) number position (now (image .entry)) (now (image .exit)) r ⌝ }
 {
-    let code = patch_code(image.len() as u64, marks, base.0, fixes, number, position);
+    let code = patch_code(image.len() as u64, marks, base, fixes, number, position);
     if code == 0 {
         let count = fix_count(fixes);
         let n = portion_of(count, number, position);
-        apply_portion(base.0, fixes, position, n, image);
+        apply_portion(base, fixes, position, n, image);
         let next = position + n;
         let done = next == count;
         Patch::Applied(Progress {

@@ -11,24 +11,28 @@ use arch::VA;
 use aspace::absolute;
 use aspace::relative;
 
+// The address that stands at an offset from the base.
 pub fn read_va_at_rva(image: &[u8], marks: &[u8], arch: Arch, offset: RVA) -> AddressAnswer
     ensures { λ r. ⌜ r ≡ asAddress (readNumber (pointerSize arch) (now (image .entry)) (now (marks .entry)) (offset .0)) ⌝ }
 {
     answers::as_address(relative::read_pointer(image, marks, arch, offset))
 }
 
+// The address that stands at an address.
 pub fn read_va_at_va(image: &[u8], marks: &[u8], base: VA, arch: Arch, address: VA) -> AddressAnswer
     ensures { λ r. ⌜ r ≡ asAddress (readNumberAt (pointerSize arch) (now (image .entry)) (now (marks .entry)) (base .0) (address .0)) ⌝ }
 {
     answers::as_address(absolute::read_pointer(image, marks, base, arch, address))
 }
 
+// The offset that stands at an offset from the base.
 pub fn read_rva_at_rva(image: &[u8], marks: &[u8], arch: Arch, offset: RVA) -> OffsetAnswer
     ensures { λ r. ⌜ r ≡ asOffset (readNumber (pointerSize arch) (now (image .entry)) (now (marks .entry)) (offset .0)) ⌝ }
 {
     answers::as_offset(relative::read_pointer(image, marks, arch, offset))
 }
 
+// The offset that stands at an address.
 pub fn read_rva_at_va(image: &[u8], marks: &[u8], base: VA, arch: Arch, address: VA) -> OffsetAnswer
     ensures { λ r. ⌜ r ≡ asOffset (readNumberAt (pointerSize arch) (now (image .entry)) (now (marks .entry)) (base .0) (address .0)) ⌝ }
 {

@@ -13,13 +13,34 @@ use Rattle.survey.specs.Survey.{surveyOf}
 use Rattle.program.specs.declared.answer.Verdict.{Verdict}
 use Rattle.program.specs.declared.answer.Verdict.the-variants.{TooLarge, Refused, Lines}
 
--- at most 8 pages, 16 sections, 128 symbol records and 128 relocations: of the file's own records, listed or not
-unfoldable pub fits : Counts → Bool
-fits c = leb (c .pages) 8 && leb (c .«file_sections») 16 && leb (c .«symbol_records») 128 && leb (c .relocations) 128
+-- the most that it takes: file bytes, pages, sections, symbol records, relocations; of the file's own records, listed or not
+abbrev pub MOST-BYTES : ℕ
+MOST-BYTES = 16384
 
+abbrev pub MOST-PAGES : ℕ
+MOST-PAGES = 8
+
+abbrev pub MOST-SECTIONS : ℕ
+MOST-SECTIONS = 16
+
+abbrev pub MOST-SYMBOLS : ℕ
+MOST-SYMBOLS = 128
+
+abbrev pub MOST-RELOCATIONS : ℕ
+MOST-RELOCATIONS = 128
+
+-- the four limits behind the size
+unfoldable pub fits : Counts → Bool
+fits c =
+    leb (c .pages) MOST-PAGES
+    && (leb (c .«file_sections») MOST-SECTIONS
+    && (leb (c .«symbol_records») MOST-SYMBOLS
+    && leb (c .relocations) MOST-RELOCATIONS))
+
+-- by survey's answer, and by the file
 unfoldable pub verdictBy : Survey → Verdict
 verdictBy (survey.Refused n) = Refused n
 verdictBy (survey.Accepted c) = pick (fits c) (Lines c) TooLarge
 
 unfoldable pub verdictOf : List ℕ → Verdict
-verdictOf f = pick (leb (length f) 16384) (verdictBy (surveyOf f)) TooLarge
+verdictOf f = pick (leb (length f) MOST-BYTES) (verdictBy (surveyOf f)) TooLarge

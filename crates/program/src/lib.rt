@@ -3,6 +3,7 @@ mod answer;
 
 pub use answer::Verdict;
 use arch::VA;
+use load::Load;
 use patch::Patch;
 use survey::Counts;
 use survey::Survey;
@@ -10,15 +11,33 @@ ghost use mathlib.Core.Path.{_≡_};
 ghost use Rattle.program.specs.Program.{fits, verdictBy, verdictOf};
 
 // The most that it takes: file bytes, pages, file sections, symbol records, relocations.
-const MAX_BYTES: usize = 16384;
+pub const MOST_BYTES: usize = 16384;
 
-const MAX_PAGES: u64 = 8;
+const MOST_PAGES: u64 = 8;
 
-const MAX_SECTIONS: u64 = 16;
+const MOST_SECTIONS: u64 = 16;
 
-const MAX_SYMBOLS: u64 = 128;
+const MOST_SYMBOLS: u64 = 128;
 
-const MAX_RELOCATIONS: u64 = 128;
+const MOST_RELOCATIONS: u64 = 128;
+
+// Room for a file of one byte more, which is seen to be too large.
+pub const FILE_ROOM: usize = 16385;
+
+// Room for what those limits let by: 8 pages and their marks, 17 records of the section table, 128 of each list.
+const IMAGE_ROOM: usize = 32768;
+
+const MARKS_ROOM: usize = 8;
+
+const SECTIONS_ROOM: usize = 1088;
+
+const SYMBOLS_ROOM: usize = 6144;
+
+const EXTERNS_ROOM: usize = 4096;
+
+const FIXUPS_ROOM: usize = 3072;
+
+const SKIPS_ROOM: usize = 3072;
 
 const BASE: u64 = 0x20000000;
 
@@ -26,7 +45,7 @@ const BASE: u64 = 0x20000000;
 pub fn verdict(f: &[u8]) -> Verdict
     ensures { λ r. ⌜ r ≡ verdictOf (now (f .entry)) ⌝ }
 {
-    let short = f.len() <= MAX_BYTES;
+    let short = f.len() <= MOST_BYTES;
     if short {
         verdict_by(survey::survey(f))
     } else {
@@ -52,24 +71,19 @@ fn verdict_by(s: Survey) -> Verdict
 fn fits(c: Counts) -> bool
     ensures { λ r. ⌜ r ≡ fits c ⌝ }
 {
-    let image = c.pages <= MAX_PAGES;
-    if image {
-        let sections = c.file_sections <= MAX_SECTIONS;
-        if sections {
-            let symbols = c.symbol_records <= MAX_SYMBOLS;
-            if symbols {
-                c.relocations <= MAX_RELOCATIONS
-            } else {
-                false
-            }
-        } else {
-            false
-        }
-    } else {
-        false
-    }
+    util::both(
+        c.pages <= MOST_PAGES,
+        util::both(
+            c.file_sections <= MOST_SECTIONS,
+            util::both(
+                c.symbol_records <= MOST_SYMBOLS,
+                c.relocations <= MOST_RELOCATIONS,
+            ),
+        ),
+    )
 }
 
+// The program's output for one object.
 pub fn top_up(f: &[u8]) {
     match verdict(f) {
         Verdict::TooLarge => too_large(),
@@ -87,16 +101,16 @@ fn refused(n: u64) {
     lines::line(b"");
 }
 
-// Room for the most: 8 pages, 17 records of the section table, 128 of each list.
+// Loads into storage of its own, patches and lists.
 fn lend(f: &[u8]) {
-    let mut image = [0u8; 32768];
-    let mut marks = [0u8; 8];
-    let mut sections = [0u8; 1088];
-    let mut symbols = [0u8; 6144];
-    let mut externs = [0u8; 4096];
-    let mut fixups = [0u8; 3072];
-    let mut skips = [0u8; 3072];
-    let s = load::load(
+    let mut image = [0u8; IMAGE_ROOM];
+    let mut marks = [0u8; MARKS_ROOM];
+    let mut sections = [0u8; SECTIONS_ROOM];
+    let mut symbols = [0u8; SYMBOLS_ROOM];
+    let mut externs = [0u8; EXTERNS_ROOM];
+    let mut fixups = [0u8; FIXUPS_ROOM];
+    let mut skips = [0u8; SKIPS_ROOM];
+    let answer = load::load(
         f,
         VA(BASE),
         &mut image,
@@ -107,9 +121,9 @@ fn lend(f: &[u8]) {
         &mut fixups,
         &mut skips,
     );
-    match s {
-        Survey::Refused(n) => refused(n),
-        Survey::Accepted(c) => {
+    match answer {
+        Load::Refused(n) => refused(n),
+        Load::Loaded(c) => {
             let code = patched(c, &mut image, &marks, &fixups);
             listed(code, f, c, &sections, &symbols, &externs, &fixups, &skips);
         }
@@ -135,7 +149,11 @@ fn listed(
 
 // All fixups of the list; the refusal's number, or 0.
 fn patched(c: Counts, image: &mut [u8], marks: &[u8], fixups: &[u8]) -> u64 {
-    let list = le::part(fixups, 0, lines::few(c.fixups) as usize * 24);
+    let list = le::part(
+        fixups,
+        0,
+        lines::few(c.fixups) as usize * limits::FIXUP_BYTES,
+    );
     match patch::patch(VA(BASE), image, marks, list, u64::MAX, 0) {
         Patch::Applied(_) => 0,
         Patch::Refused(n) => n,

@@ -21,7 +21,8 @@ unfoldable pub unlessRefused : {A : Type 0} → ℕ → A → A → A
 unlessRefused zero new old = new
 unlessRefused (suc k) new old = old
 
--- the numbers (01, "The operations and what they turn down")
+-- ---- the numbers (01, "The operations and what they turn down")
+-- survey: of the file and its tables
 abbrev pub FILE-SIZE : ℕ
 FILE-SIZE = 1
 
@@ -34,6 +35,7 @@ SECTION-TABLE = 3
 abbrev pub SYMBOL-TABLE : ℕ
 SYMBOL-TABLE = 4
 
+-- of its records
 abbrev pub SECTION-DATA : ℕ
 SECTION-DATA = 5
 
@@ -43,6 +45,7 @@ NAME = 6
 abbrev pub SECTION-NUMBER : ℕ
 SECTION-NUMBER = 7
 
+-- of the layout, the extern names and the relocations
 abbrev pub PAGES : ℕ
 PAGES = 8
 
@@ -52,18 +55,22 @@ EXTERNS = 9
 abbrev pub TARGET : ℕ
 TARGET = 10
 
+-- of a fixup's place
 abbrev pub PLACE : ℕ
 PLACE = 11
 
+-- load
 abbrev pub BASE : ℕ
 BASE = 12
 
 abbrev pub STORAGE : ℕ
 STORAGE = 13
 
+-- patch
 abbrev pub POSITION : ℕ
 POSITION = 14
 
+-- read, write and the page writes
 abbrev pub NOT-MAPPED : ℕ
 NOT-MAPPED = 15
 
@@ -73,9 +80,11 @@ NOT-ON-A-PAGE = 16
 abbrev pub NOT-WHOLE-PAGES : ℕ
 NOT-WHOLE-PAGES = 17
 
+-- write
 abbrev pub TOO-LONG : ℕ
 TOO-LONG = 18
 
+-- questions to the tables
 abbrev pub NO-SECTION : ℕ
 NO-SECTION = 19
 

@@ -6,6 +6,7 @@ ghost use Rattle.le.specs.Le.{splice};
 ghost use Rattle.words.specs.Words.{wordBytes};
 ghost use Rattle.results.specs.Results.{countsWords, progressWords};
 
+// The counts, ten words.
 pub fn write_counts(c: Counts, b: &mut [u8])
     ensures { λ _. ⌜ now (b .exit) ≡ splice (now (b .entry)) 0 (wordBytes (countsWords c)) ⌝ }
 {
@@ -30,6 +31,7 @@ fn flag(done: bool) -> u64
     if done { 1 } else { 0 }
 }
 
+// Where a portion ended, and whether the list did: two words.
 pub fn write_progress(position: u64, done: bool, b: &mut [u8])
     ensures { λ _. ⌜ now (b .exit) ≡ splice (now (b .entry)) 0 (wordBytes (progressWords position done)) ⌝ }
 {

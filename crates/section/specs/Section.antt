@@ -18,12 +18,12 @@ use Rattle.section.specs.declared.Probe.{Probe}
 use Rattle.section.specs.declared.OffsetProbe.{OffsetProbe}
 
 -- from `low` on and below `high`
-unfoldable pub within : ℕ → ℕ → ℕ → Bool
+abbrev pub within : ℕ → ℕ → ℕ → Bool
 within low high x = leb low x && ltb x high
 
 -- the address lies in the section's range
 abbrev pub holds : VA → Section → Bool
-holds a s = within (s .start) (s .end) (a .0)
+holds a s = within (s .start .0) (s .end .0) (a .0)
 
 -- the offset lies in the section's part of the file
 abbrev pub fileHolds : ℕ → Section → Bool
@@ -40,26 +40,26 @@ sectionHasName file name s = pick (eqb (s .number) 0) (sameBytes name UNDEF) (sa
 
 -- ---- permissions
 -- both have the lowest bit
-unfoldable pub both : ℕ → ℕ → Bool
-both a b = eqb (a % 2) 1 && eqb (b % 2) 1
+abbrev pub shareBit : ℕ → ℕ → Bool
+shareBit a b = eqb (a % 2) 1 && eqb (b % 2) 1
 
 -- both have read, or write, or execute
-unfoldable pub intersects : ℕ → ℕ → Bool
-intersects a b = both a b || (both (a / 2) (b / 2) || both (a / 4) (b / 4))
+abbrev pub intersects : ℕ → ℕ → Bool
+intersects a b = shareBit a b || (shareBit (a / 2) (b / 2) || shareBit (a / 4) (b / 4))
 
 -- the section holds the address and has one of the permissions
-unfoldable pub grants : Probe → Section → Bool
+abbrev pub grants : Probe → Section → Bool
 grants q s = holds (q .va) s && intersects (s .permissions) (q .permissions)
 
--- past 64 bits there is no address
+-- the same at an address, which past 64 bits there is none of
 abbrev pub grantsAt : ℕ → Section → Address → Bool
 grantsAt p s (Of a) = grants (record { va = a; permissions = p }) s
 grantsAt p s Past = false
 
+-- and at an offset from the base
 abbrev pub grantsOffset : OffsetProbe → Section → Bool
 grantsOffset q s = grantsAt (q .permissions) s (addressOf (q .base .0) (q .rva .0))
 
 -- ---- with no permission asked for it is no
 pub intersects-none : (a : ℕ) → intersects a 0 ≡ false
-unfolding intersects both
 intersects-none a = rw (and-false (eqb (a % 2) 1), and-false (eqb (a / 2 % 2) 1), and-false (eqb (a / 4 % 2) 1))

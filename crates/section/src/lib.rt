@@ -6,7 +6,7 @@ ghost use Rattle.section.specs.Section.{
   fileHolds,
   hasByte,
   sectionHasName,
-  both,
+  shareBit,
   intersects,
   grants,
   grantsAt,
@@ -20,8 +20,8 @@ use refusal::Number;
 // A record of the section table: its range in memory, its range in the file, read 1, write 2 and execute 4 added,
 // where its name stands in the file, and its number there, 0 for UNDEF.
 pub struct Section {
-    pub start: u64,
-    pub end: u64,
+    pub start: VA,
+    pub end: VA,
     pub file_start: u64,
     pub file_end: u64,
     pub permissions: u64,
@@ -47,15 +47,14 @@ pub struct OffsetProbe {
 fn within(low: u64, high: u64, x: u64) -> bool
     ensures { λ r. ⌜ r ≡ within low high x ⌝ }
 {
-    let above = low <= x;
-    if above { x < high } else { false }
+    util::both(low <= x, x < high)
 }
 
 // The address lies in the section's range.
 pub fn holds(s: Section, va: VA) -> bool
     ensures { λ r. ⌜ r ≡ holds va s ⌝ }
 {
-    within(s.start, s.end, va.0)
+    within(s.start.0, s.end.0, va.0)
 }
 
 // The offset lies in the section's part of the file.
@@ -91,39 +90,30 @@ pub fn has_name(s: Section, file: &[u8], name: &[u8]) -> bool
 }
 
 // Both have the lowest bit.
-fn both(a: u64, b: u64) -> bool
-    ensures { λ r. ⌜ r ≡ both a b ⌝ }
+fn share_bit(a: u64, b: u64) -> bool
+    ensures { λ r. ⌜ r ≡ shareBit a b ⌝ }
 {
-    let has = a % 2 == 1;
-    if has { b % 2 == 1 } else { false }
+    util::both(a % 2 == 1, b % 2 == 1)
 }
 
 // Both have read, or write, or execute.
 fn intersects(a: u64, b: u64) -> bool
     ensures { λ r. ⌜ r ≡ intersects a b ⌝ }
 {
-    if both(a, b) {
-        true
-    } else {
-        if both(a / 2, b / 2) {
-            true
-        } else {
-            both(a / 4, b / 4)
-        }
-    }
+    util::either(
+        share_bit(a, b),
+        util::either(share_bit(a / 2, b / 2), share_bit(a / 4, b / 4)),
+    )
 }
 
 // The section holds the address and has one of the permissions.
 pub fn grants(s: Section, q: Probe) -> bool
     ensures { λ r. ⌜ r ≡ grants q s ⌝ }
 {
-    if holds(s, q.va) {
-        intersects(s.permissions, q.permissions)
-    } else {
-        false
-    }
+    util::both(holds(s, q.va), intersects(s.permissions, q.permissions))
 }
 
+// The same at an address that may lie past 64 bits, where nothing is granted.
 fn grants_at(s: Section, a: Address, permissions: u64) -> bool
     ensures { λ r. ⌜ r ≡ grantsAt permissions s a ⌝ }
 {

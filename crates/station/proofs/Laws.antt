@@ -1,5 +1,5 @@
 -- The ways through the code. Assumes nothing.
-use mathlib.Core.Path.{_≡_, refl, subst, _∙_}
+use mathlib.Core.Path.{_≡_, refl, ap, subst, _∙_}
 use mathlib.Core.Bool.{true, false}
 use mathlib.Core.List.{List}
 use Prim.Native.Nat.{ℕ, zero, suc}
@@ -17,15 +17,17 @@ use Rattle.survey.specs.declared.answer.Survey.{Survey}
 use Rattle.survey.specs.declared.answer.Survey.the-variants as survey
 use Rattle.survey.specs.Survey.{firstFailed, checks, counts, answerBy, surveyOf}
 use Rattle.results.specs.Results.{COUNTS-BYTES, countsWords, PROGRESS-BYTES, progressWords}
-use Rattle.load.specs.Load.{Storage, Loads}
+use Rattle.load.specs.declared.answer.Load.{Load}
+use Rattle.load.specs.declared.answer.Load.the-variants as load
+use Rattle.load.specs.Load.{Storage, loadAnswer, Loads}
 use Rattle.patch.specs.declared.answer.Progress.{Progress}
 use Rattle.patch.specs.declared.answer.Patch.{Patch}
 use Rattle.patch.specs.declared.answer.Patch.the-variants as patch
 use Rattle.patch.specs.Patch.{answerOf, Patches}
-use Rattle.station.specs.Station.{codeWith, written, Told, ToldBoth, Surveyed, Loaded, Patched, answerCode, surveyCode, countsIn, CountsTold, patchAnswerCode, progressIn, ProgressTold}
+use Rattle.station.specs.Station.{codeWith, toldIn, Told, ToldBoth, Surveyed, Loaded, Patched, answerCode, asSurvey, surveyCode, countsIn, CountsTold, patchAnswerCode, progressIn, ProgressTold}
 
 -- ---- an answer, told
-pub counts-accepted : (a : Survey) (c : Counts) (out out′ : List ℕ) → a ≡ survey.Accepted c → out′ ≡ written out (countsWords c) → CountsTold a out out′ 0
+pub counts-accepted : (a : Survey) (c : Counts) (out out′ : List ℕ) → a ≡ survey.Accepted c → out′ ≡ toldIn out (countsWords c) → CountsTold a out out′ 0
 unfolding surveyCode countsIn
 counts-accepted a c out out′ e d = rw e (record { says = refl; result = d })
 
@@ -35,7 +37,17 @@ counts-refused a n out e = rw e (record { says = refl; result = refl })
 
 pub ruleset counting = (counts-accepted, counts-refused)
 
-pub progress-applied : (a : Patch) (p : Progress) (out out′ : List ℕ) → a ≡ patch.Applied p → out′ ≡ written out (progressWords (p .position) (p .done))
+pub counted-loaded : (a : Load) (c : Counts) → a ≡ load.Loaded c → survey.Accepted c ≡ asSurvey a
+unfolding asSurvey
+counted-loaded a c e = rw e
+
+pub counted-refused : (a : Load) (n : ℕ) → a ≡ load.Refused n → survey.Refused n ≡ asSurvey a
+unfolding asSurvey
+counted-refused a n e = rw e
+
+pub ruleset loading = (counted-loaded, counted-refused)
+
+pub progress-applied : (a : Patch) (p : Progress) (out out′ : List ℕ) → a ≡ patch.Applied p → out′ ≡ toldIn out (progressWords (p .position) (p .done))
     → ProgressTold a out out′ 0
 unfolding patchAnswerCode progressIn
 progress-applied a p out out′ e d = rw e (record { says = refl; result = d })
@@ -65,7 +77,7 @@ unfolding answerBy pick
 by-refusal k c = rw (not-zero k)
 
 counts-by : (code : ℕ) (c : Counts) (a : Survey) (out out′ : List ℕ) (r : ℕ) → a ≡ answerBy code c → CountsTold a out out′ r
-    → Told code (written out (countsWords c)) out out′ r
+    → Told code (toldIn out (countsWords c)) out out′ r
 unfolding answerBy pick surveyCode countsIn unlessRefused
 counts-by zero c a out out′ r e t =
     let u : CountsTold (survey.Accepted c) out out′ r = subst (λ (x : Survey). CountsTold x out out′ r) e t in
@@ -74,8 +86,13 @@ counts-by (suc k) c a out out′ r e t =
     let u : CountsTold (survey.Refused (suc k)) out out′ r = subst (λ (x : Survey). CountsTold x out out′ r) (e ∙ by-refusal k c) t in
     record { says = u .says; leaves = u .result }
 
+counted-by : (code : ℕ) (c : Counts) → asSurvey (loadAnswer code c) ≡ answerBy code c
+unfolding loadAnswer answerBy pick asSurvey
+counted-by zero c = refl
+counted-by (suc k) c = rw (not-zero k)
+
 progress-by : (code : ℕ) (p : Progress) (a : Patch) (out out′ : List ℕ) (r : ℕ) → a ≡ answerOf code p → ProgressTold a out out′ r
-    → Told code (written out (progressWords (p .position) (p .done))) out out′ r
+    → Told code (toldIn out (progressWords (p .position) (p .done))) out out′ r
 unfolding answerOf patchAnswerCode progressIn unlessRefused
 progress-by zero p a out out′ r e t =
     let u : ProgressTold (patch.Applied p) out out′ r = subst (λ (x : Patch). ProgressTold x out out′ r) e t in
@@ -118,10 +135,11 @@ pub survey-told : (f out out′ : List ℕ) (a : Survey) (r : ℕ) → leb COUNT
 survey-told f out out′ a r e q t =
     told-room COUNTS-BYTES (firstFailed (checks f (headerOf f))) out _ out out′ r e (counts-by (firstFailed (checks f (headerOf f))) (counts f (headerOf f)) a out out′ r q t)
 
-pub load-told : (f : List ℕ) (base : ℕ) (s s′ : Storage) (out out′ : List ℕ) (a : Survey) (r : ℕ) → leb COUNTS-BYTES (length out) ≡ true → Loads f base s s′ a → CountsTold a out out′ r
+pub load-told : (f : List ℕ) (base : ℕ) (s s′ : Storage) (out out′ : List ℕ) (a : Load) (b : Survey) (r : ℕ) → leb COUNTS-BYTES (length out) ≡ true → Loads f base s s′ a → b ≡ asSurvey a → CountsTold b out out′ r
     → Loaded f base s s′ out out′ r
-load-told f base s s′ out out′ a r e q t =
-    both-room COUNTS-BYTES _ out _ out out′ _ s s′ r e (counts-by _ (counts f (headerOf f)) a out out′ r (q .says) t) (stored-by _ _ s s′ (q .leaves))
+load-told f base s s′ out out′ a b r e q w t =
+    both-room COUNTS-BYTES _ out _ out out′ _ s s′ r e (counts-by _ (counts f (headerOf f)) b out out′ r (w ∙ ap asSurvey (q .says) ∙ counted-by _ (counts f (headerOf f))) t)
+    (stored-by _ _ s s′ (q .leaves))
 
 pub patch-told : (base : ℕ) (marks fixes : List ℕ) (number position : ℕ) (image image′ out out′ : List ℕ) (a : Patch) (r : ℕ) → leb PROGRESS-BYTES (length out) ≡ true
     → Patches base marks fixes number position image image′ a → ProgressTold a out out′ r → Patched base marks fixes number position image image′ out out′ r

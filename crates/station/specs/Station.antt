@@ -15,6 +15,8 @@ use Rattle.survey.specs.declared.answer.Survey.the-variants as survey
 use Rattle.survey.specs.Survey.{firstFailed, checks, counts}
 use Rattle.words.specs.Words.{wordBytes}
 use Rattle.results.specs.Results.{COUNTS-BYTES, countsWords, PROGRESS-BYTES, progressWords}
+use Rattle.load.specs.declared.answer.Load.{Load}
+use Rattle.load.specs.declared.answer.Load.the-variants as load
 use Rattle.load.specs.Load.{Storage, loadChecks, stored}
 use Rattle.patch.specs.declared.answer.Patch.{Patch}
 use Rattle.patch.specs.declared.answer.Patch.the-variants as patch
@@ -26,8 +28,8 @@ use Rattle.aspace.specs.Space.{readCodeAt}
 abbrev pub codeWith : ℕ → List ℕ → ℕ → ℕ
 codeWith n out code = pick (leb n (length out)) code STORAGE
 
-abbrev pub written : List ℕ → List ℕ → List ℕ
-written out words = splice out 0 (wordBytes words)
+abbrev pub toldIn : List ℕ → List ℕ → List ℕ
+toldIn out words = splice out 0 (wordBytes words)
 
 -- the answer is the code; a lent buffer holds the new contents, or on a refusal what it held before. With one such buffer, and with two things lent
 pub record Told {A : Type 0} (code : ℕ) (new old at-exit : A) (r : ℕ) : Type 0 where
@@ -42,7 +44,7 @@ pub record ToldBoth {A B : Type 0} (code : ℕ) (new old at-exit : A) (new₂ ol
 -- survey: the counts of the file
 abbrev pub Surveyed : List ℕ → List ℕ → List ℕ → ℕ → Type 0
 Surveyed f out out′ r =
-    Told (codeWith COUNTS-BYTES out (firstFailed (checks f (headerOf f)))) (written out (countsWords (counts f (headerOf f)))) out out′ r
+    Told (codeWith COUNTS-BYTES out (firstFailed (checks f (headerOf f)))) (toldIn out (countsWords (counts f (headerOf f)))) out out′ r
 
 -- load: the seven buffers, and the counts of the file
 abbrev pub Loaded : List ℕ → ℕ → Storage → Storage → List ℕ → List ℕ → ℕ → Type 0
@@ -52,7 +54,7 @@ Loaded f base s s′ out out′ r =
     (stored f (headerOf f) base s)
     s
     s′
-    (written out (countsWords (counts f (headerOf f))))
+    (toldIn out (countsWords (counts f (headerOf f))))
     out
     out′
     r
@@ -68,7 +70,7 @@ Patched base marks fixes number position image image′ out out′ r =
     (fixedFrom base fixes image position (portion (fixCount fixes) number position))
     image
     image′
-    (written out (progressWords (portionEnd fixes number position) (eqb (portionEnd fixes number position) (fixCount fixes))))
+    (toldIn out (progressWords (portionEnd fixes number position) (eqb (portionEnd fixes number position) (fixCount fixes))))
     out
     out′
     r
@@ -83,24 +85,31 @@ unfoldable pub answerCode : Answer → ℕ
 answerCode Done = 0
 answerCode (Refused n) = n
 
+-- load's counts are told as survey's
+unfoldable pub asSurvey : Load → Survey
+asSurvey (load.Loaded c) = survey.Accepted c
+asSurvey (load.Refused n) = survey.Refused n
+
+-- survey's answer, told
 unfoldable pub surveyCode : Survey → ℕ
 surveyCode (survey.Accepted c) = 0
 surveyCode (survey.Refused n) = n
 
 unfoldable pub countsIn : Survey → List ℕ → List ℕ
-countsIn (survey.Accepted c) out = written out (countsWords c)
+countsIn (survey.Accepted c) out = toldIn out (countsWords c)
 countsIn (survey.Refused n) out = out
 
 pub record CountsTold (answer : Survey) (out out′ : List ℕ) (r : ℕ) : Type 0 where
   pub says : r ≡ surveyCode answer
   pub result : out′ ≡ countsIn answer out
 
+-- patch's answer, told
 unfoldable pub patchAnswerCode : Patch → ℕ
 patchAnswerCode (patch.Applied p) = 0
 patchAnswerCode (patch.Refused n) = n
 
 unfoldable pub progressIn : Patch → List ℕ → List ℕ
-progressIn (patch.Applied p) out = written out (progressWords (p .position) (p .done))
+progressIn (patch.Applied p) out = toldIn out (progressWords (p .position) (p .done))
 progressIn (patch.Refused n) out = out
 
 pub record ProgressTold (answer : Patch) (out out′ : List ℕ) (r : ℕ) : Type 0 where

@@ -1,12 +1,13 @@
 // What the station's host calls from C: survey, load, patch and read, on numbers and lent bytes. Each answers 0 or the number of its
 // refusal; what else there is to say goes to the front of a lent buffer, as words (docs/HOST.md). Too short a buffer for that is 13.
 use arch::VA;
+use load::Load;
 use patch::Patch;
 use refusal::Answer;
 use survey::Survey;
 ghost use mathlib.Core.Path.{_≡_};
 ghost use Rattle.load.specs.Loading.{storage};
-ghost use Rattle.station.specs.Station.{CountsTold, ProgressTold, answerCode, Surveyed, Loaded, Patched, Read};
+ghost use Rattle.station.specs.Station.{asSurvey, CountsTold, ProgressTold, answerCode, Surveyed, Loaded, Patched, Read};
 
 pub const COUNTS_BYTES: usize = 80;
 
@@ -21,6 +22,16 @@ fn tell_counts(answer: Survey, out: &mut [u8]) -> u64
             0
         }
         Survey::Refused(n) => n,
+    }
+}
+
+// Load's counts are told as survey's.
+fn as_survey(answer: Load) -> Survey
+    ensures { λ r. ⌜ r ≡ asSurvey answer ⌝ }
+{
+    match answer {
+        Load::Loaded(c) => Survey::Accepted(c),
+        Load::Refused(n) => Survey::Refused(n),
     }
 }
 
@@ -91,7 +102,7 @@ pub extern "C" fn nelgrauf_load(
             fixups,
             skips,
         );
-        tell_counts(answer, counts)
+        tell_counts(as_survey(answer), counts)
     } else {
         refusal::STORAGE
     }

@@ -1,12 +1,11 @@
 -- The ways through the strings. Assumes nothing.
 use mathlib.Core.Path.{_≡_, refl, sym, ap, _∙_}
-use mathlib.Core.Bool.{Bool, true, false, and-false, or-false}
+use mathlib.Core.Bool.{Bool, true, false, _&&_, _||_, and-false}
 use mathlib.Core.List.{List, []}
 use Prim.Native.Nat.{ℕ, suc, _+_, _-_, _^_, _≤_, _<_}
 use native.Mathlib.Omega.{arith}
 use lib.Dec.{leb, ltb, eqb}
 use lib.ListN.{length, getD}
-use borrow.Author.Tests.{le-leb, lt-leb, ne-eqb, eqb-true}
 use Rattle.util.specs.Pick.{pick}
 use Rattle.arch.specs.declared.RVA.{RVA}
 use Rattle.arch.specs.declared.Offset.{Offset}
@@ -20,22 +19,9 @@ use Rattle.strings.specs.declared.Ascii.the-variants.{Text, TooShort, Re
 use Rattle.strings.specs.Ascii.{isText, textIn, textLength, asciiOf, asciiAt, asciiFrom, textOf}
 
 -- ---- a byte of text
-module _ (b : ℕ) where
-  pub text-plain : 0x20 ≤ b → ltb b 0x7F ≡ isText b
-  unfolding isText
-  text-plain h = rw (le-leb 0x20 b h, ne-eqb b 0x9 (λ e. omega arith), ne-eqb b 0xA (λ e. omega arith), ne-eqb b 0xD (λ e. omega arith)) (sym (or-false (ltb b 0x7F)))
-
-  pub text-tab : eqb b 0x9 ≡ true → true ≡ isText b
-  unfolding isText
-  text-tab e = rw (eqb-true b 0x9 e)
-
-  pub text-feed : eqb b 0xA ≡ true → true ≡ isText b
-  unfolding isText
-  text-feed e = rw (eqb-true b 0xA e)
-
-  pub text-return : b < 0x20 → eqb b 0x9 ≡ false → eqb b 0xA ≡ false → eqb b 0xD ≡ isText b
-  unfolding isText
-  text-return h e d = rw (lt-leb 0x20 b h, e, d)
+pub text-byte : (b : ℕ) (r v l t : Bool) → r ≡ (v || t) → t ≡ (eqb b 0x9 || l) → v ≡ (leb 0x20 b && ltb b 0x7F) → l ≡ (eqb b 0xA || eqb b 0xD) → r ≡ isText b
+unfolding isText
+text-byte b r v l t e d p q = rw (← p, ← q, ← d) e
 
 left-suc : (i l : ℕ) → i < l → l - i ≡ suc (l - (i + 1))
 left-suc i l h = omega arith
@@ -66,10 +52,8 @@ text-begin image marks at = let d : at - at ≡ 0 = omega arith in rw d (omega a
 
 pub ruleset text-loop = (text-begin, text-more, text-unmapped, text-other, text-end)
 
-pub ruleset text-bytes = (text-plain, text-tab, text-feed, text-return)
-
 module _ (image marks : List ℕ) (o : RVA) (minimum : ℕ) (ok : Bool) (is : ok ≡ storageOk (length image) (length marks)) where
-  pub ascii-bad : ok ≡ false → Refused 13 ≡ asciiOf image marks (o .0) minimum
+  pub ascii-bad : ok ≡ false → Refused STORAGE ≡ asciiOf image marks (o .0) minimum
   unfolding asciiOf pick
   ascii-bad e = rw (← is, e)
 

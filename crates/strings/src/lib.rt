@@ -17,27 +17,20 @@ pub enum Ascii {
     Refused(u64),
 }
 
+// A byte of a string: a visible one or a space; a tab, a line feed or a carriage return.
 fn is_text(b: u8) -> bool
     ensures { λ r. ⌜ r ≡ isText b ⌝ }
 {
-    if b < 0x20 {
-        let tab = b == 0x9;
-        if tab {
-            return true;
-        }
-        let feed = b == 0xA;
-        if feed {
-            return true;
-        }
-        return b == 0xD;
-    }
-    b < 0x7F
+    let visible = util::both(0x20 <= b, b < 0x7F);
+    let line_end = util::either(b == 0xA, b == 0xD);
+    util::either(visible, util::either(b == 0x9, line_end))
 }
 
-// How many mapped text bytes stand from `at` on.
-fn text_length(image: &[u8], marks: &[u8], at: usize) -> u64
-    ensures { λ r. ⌜ r ≡ textLength (now (image .entry)) (now (marks .entry)) at ⌝ }
+// How many mapped text bytes stand from `start` on.
+fn text_length(image: &[u8], marks: &[u8], start: RVA) -> u64
+    ensures { λ r. ⌜ r ≡ textLength (now (image .entry)) (now (marks .entry)) (start .0) ⌝ }
 {
+    let at = start.0 as usize;
     let mut i = at;
     while i < image.len() {
         if pagemap::probe(image, marks, RVA(i as u64)) {
@@ -58,7 +51,7 @@ pub fn read_ascii(image: &[u8], marks: &[u8], offset: RVA, minimum_length: u64) 
     ensures { λ r. ⌜ r ≡ asciiOf (now (image .entry)) (now (marks .entry)) (offset .0) «minimum_length» ⌝ }
 {
     if pagemap::storage_ok(image.len() as u64, marks.len() as u64) {
-        let n = text_length(image, marks, offset.0 as usize);
+        let n = text_length(image, marks, offset);
         let long = minimum_length <= n;
         if long {
             Ascii::Text(offset, n)

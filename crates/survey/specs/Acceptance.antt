@@ -1,5 +1,5 @@
 -- What acceptance gives: of every file that survey accepts, as the small object is (`demands: Table`).
-use mathlib.Core.Path.{_≡_, refl, ap, _∙_}
+use mathlib.Core.Path.{_≡_, refl, _∙_}
 use mathlib.Core.Bool.{Bool, true, false, not}
 use mathlib.Core.List.{List, _++_}
 use mathlib.Core.Logic.{_⊎_, inl, inr, ⊎-elim}
@@ -7,7 +7,7 @@ use Prim.Native.Nat.{ℕ, _+_, _*_, _/_, _≤_, _<_, _^_}
 use native.Mathlib.Omega.{arith}
 use lib.Dec.{eqb}
 use lib.ListN.{length, getD}
-use borrow.Author.Tests.{leb-true, not-false, lt-ltb, ne-eqb, eqb-true}
+use borrow.Author.Tests.{leb-true, not-false, lt-ltb, eqb-true}
 use Rattle.util.specs.Pick.{pick, and-both}
 use Rattle.object.specs.declared.Header.{Header}
 use Rattle.kinds.specs.declared.SymbolKind.{SymbolKind}
@@ -16,16 +16,17 @@ use Rattle.kinds.specs.declared.Place.{Place}
 use Rattle.kinds.specs.declared.Place.the-variants as places
 use Rattle.object.specs.Format.{headerOf}
 use Rattle.object.specs.Section.{loaded, relocationCount}
-use Rattle.object.specs.Symbol.{kind, symbolPlace}
-use Rattle.object.specs.Relocation.{relocationSymbol}
+use Rattle.object.specs.Symbol.{kind, symbolPlace, isSymbol}
+use Rattle.object.specs.Relocation.{relocationSymbol, relocationType}
 use Rattle.names.specs.Name.{symbolText}
-use Rattle.layout.specs.Layout.{startAt, undefStart, mappedPages}
-use Rattle.layout.specs.Home.{homeCell}
-use Rattle.layout.specs.HomeLaws.{loaded-has-home, homes-exact}
-use Rattle.checks.specs.Limits.{MAX-PAGES, MAX-EXTERNS}
+use Rattle.layout.specs.Layout.{undefStart, mappedPages}
+use Rattle.homes.specs.Home.{sectionHome}
+use Rattle.homes.specs.HomeLaws.{loaded-starts, section-most}
+use Rattle.limits.specs.Limits.{MAX-PAGES, MAX-EXTERNS, SLOT-SIZE}
+use Rattle.arch.specs.Address.{rva}
 use Rattle.arch.specs.Page.{PAGE-SIZE}
-use Rattle.externs.specs.declared.Found.the-variants.{At}
-use Rattle.externs.specs.Puts.{outside, putsBy, putsName, isOwn, puts}
+use Rattle.externs.specs.declared.Found.the-variants.{Index}
+use Rattle.externs.specs.Puts.{outside, putsBy, putsName, puts}
 use Rattle.externs.specs.Externs.{externs}
 use Rattle.externs.specs.Slot.{slotOf}
 use Rattle.externs.specs.SlotLaws.{Slot}
@@ -35,17 +36,21 @@ use Rattle.targets.specs.declared.Skip.{Skip}
 use Rattle.targets.specs.declared.Target.{Target}
 use Rattle.targets.specs.declared.Target.the-variants as targets
 use Rattle.fixups.specs.declared.Outcome.{Outcome}
-use Rattle.fixups.specs.declared.Outcome.the-variants.{Passed, Skipped, TurnedDown, Fixup}
+use Rattle.fixups.specs.declared.Outcome.the-variants.{Passed, Skipped, Refused, Fixup}
 use Rattle.targets.specs.Target.{slotTarget, slotFor, dataTarget, targetBy, targetOf}
 use Rattle.fixups.specs.Tally.{isPassed, isRefused, isMapped, isOutside, howMany, tallyOf}
 use Rattle.fixups.specs.Lists.{fixList, skipList}
-use Rattle.fixups.specs.ListLaws.{Stands, fixup-listed, skip-listed}
+use Rattle.fixups.specs.ListLaws.{Stands, fixup-listed, skip-listed, every-fixup}
 use Rattle.fixups.specs.TallyLaws.{all-counted, fixups-counted, skips-counted, none-anywhere}
 use Rattle.fixups.specs.OutcomeLaws.{fix-from, homed-not-passed}
 use Rattle.survey.specs.declared.answer.Counts.{Counts}
 use Rattle.survey.specs.declared.answer.Survey.the-variants.{Accepted}
-use Rattle.survey.specs.Survey.{firstFailed, externChecks, targetChecks, ownMap, homes, outcomes, tally, countsBy, counts, checks, surveyOf}
+use Rattle.survey.specs.Survey.{firstFailed, externChecks, targetChecks, outcomes, tally, countsBy, counts, checks, surveyOf}
 use Rattle.survey.specs.SurveyLaws.{check-holds, checks-hold, Ordered, ordered, ordered-rest, tells-accepted}
+use Rattle.arch.specs.Machine.{archOf, archBy}
+use Rattle.layout.specs.LayoutLaws.{undef-fits}
+use Rattle.fixups.specs.TargetLaws.{target-near}
+use Rattle.fixups.specs.ValueLaws.{Exact, type-addend}
 
 -- data and text outside the sections put their names
 puts-by : (k : SymbolKind) (p : Place) (taken : Bool) → (k ≡ kinds.Data) ⊎ (k ≡ kinds.Text) → outside p ≡ true → putsBy k p taken ≡ true
@@ -111,17 +116,9 @@ module _ (f : List ℕ) (c : Counts) (accepted : surveyOf f ≡ Accepted c) wher
 
   -- ---- the request's rule: whatever relocation of a loaded section is passed over is listed by section, record and reason, so that the host may stop there
   -- a loaded section has a home, so none of its relocations is passed
-  loaded-homed : (i : ℕ) → i < header .sections → loaded f header i ≡ true → eqb (getD (homes f header) i 0) 0 ≡ false
-  unfolding homeCell
-  loaded-homed i a t =
-      let b = loaded-has-home f header i a t in
-      let e : getD (homes f header) i 0 ≡ startAt f header (b .section) + 1 =
-      homes-exact f header (header .sections) i pages-few a ∙ ap (homeCell f header) (b .is) in
-      ne-eqb (getD (homes f header) i 0) 0 (λ z. absurd (omega arith))
-
   pub loaded-not-passed : (i k : ℕ) → i < header .sections → loaded f header i ≡ true → isPassed (o i k) ≡ false
   loaded-not-passed i k a t =
-      homed-not-passed _ f header (ownMap f header) (homes f header) (undefStart f header) (slotOf f header (externs f header)) i k (loaded-homed i a t)
+      homed-not-passed _ f header (isSymbol f header) (sectionHome f header) (undefStart f header) (slotOf f header (externs f header)) i k _ (loaded-starts f header i a t)
 
   -- so each is a fixup of the fix list, or it is skipped and stands in the skip list, with its section from 1, its record from 0 and the reason
   pub record IsFixed (i k : ℕ) : Type 0 where
@@ -138,7 +135,7 @@ module _ (f : List ℕ) (c : Counts) (accepted : surveyOf f ≡ Accepted c) wher
       → IsFixed i k ⊎ IsSkipped i k
   either-way i k a b Passed e p q = absurd (let w : _≡_ {A = ℕ} 0 1 = cc in omega arith)
   either-way i k a b (Skipped r) e p q = inr (record { reason = r; is = e; listed = skip-listed o count (header .sections) i k a b r e })
-  either-way i k a b TurnedDown e p q = absurd (let w : _≡_ {A = ℕ} 0 1 = cc in omega arith)
+  either-way i k a b Refused e p q = absurd (let w : _≡_ {A = ℕ} 0 1 = cc in omega arith)
   either-way i k a b (Fixup x) e p q = inl (record { fix = x; is = e; listed = fixup-listed o count (header .sections) i k a b x e })
 
   pub loaded-listed : (i k : ℕ) → i < header .sections → k < count i → loaded f header i ≡ true → IsFixed i k ⊎ IsSkipped i k
@@ -150,43 +147,43 @@ module _ (f : List ℕ) (c : Counts) (accepted : surveyOf f ≡ Accepted c) wher
       ⊎-elim (λ x. x) (λ s. absurd (let l = s .listed .inside in let n = skips-listed in omega arith)) (loaded-listed i k a b t)
 
   -- every byte of a fixup lies in mapped pages, and its place is an offset below 2^24
-  pub fixups-mapped : (i k : ℕ) (x : Fix) → i < header .sections → k < count i → o i k ≡ Fixup x → x .place + x .bits / 8 ≤ PAGE-SIZE * mappedPages f header
+  pub fixups-mapped : (i k : ℕ) (x : Fix) → i < header .sections → k < count i → o i k ≡ Fixup x → x .place .0 + x .bits / 8 ≤ PAGE-SIZE * mappedPages f header
   fixups-mapped i k x a b e =
       let z : isOutside (mappedPages f header) (o i k) ≡ false = none-anywhere (isOutside (mappedPages f header)) o count (header .sections) i k none-outside-all a b in
       let w : not (isMapped (mappedPages f header) x) ≡ false = rw e at z in
-      leb-true (x .place + x .bits / 8) (PAGE-SIZE * mappedPages f header) (not-false (isMapped (mappedPages f header) x) w)
+      leb-true (x .place .0 + x .bits / 8) (PAGE-SIZE * mappedPages f header) (not-false (isMapped (mappedPages f header) x) w)
 
-  pub places-fit : (i k : ℕ) (x : Fix) → i < header .sections → k < count i → o i k ≡ Fixup x → x .place < 2 ^ 24
+  pub places-fit : (i k : ℕ) (x : Fix) → i < header .sections → k < count i → o i k ≡ Fixup x → x .place .0 < 2 ^ 24
   places-fit i k x a b e =
       let m = fixups-mapped i k x a b e in
       let p = pages-few in
-      let r = fix-from _ f header (ownMap f header) (homes f header) (undefStart f header) (slotOf f header (externs f header)) i k x e in
+      let r = fix-from _ f header (isSymbol f header) (sectionHome f header) (undefStart f header) (slotOf f header (externs f header)) i k x e in
       ⊎-elim (λ n. let z : x .bits / 8 ≡ 4 = rw n in omega arith) (λ n. let z : x .bits / 8 ≡ 8 = rw n in omega arith) (r .resolved .bits)
 
   -- ---- slots
   -- each has its four bytes below 2^24
-  pub slots-fit : (e : ℕ) → e < length (externs f header) → undefStart f header + 4 * e + 4 ≤ 2 ^ 24
+  pub slots-fit : (e : ℕ) → e < length (externs f header) → undefStart f header + SLOT-SIZE * e + SLOT-SIZE ≤ 2 ^ 24
   slots-fit e k = let n = names-few in let p = pages-few in omega arith
 
   -- a relocation that puts its symbol's name has its slot
   pub record SlotAt (name : List ℕ) : Type 0 where
     pub index : ℕ
     pub inside : index < length (externs f header)
-    pub found : slotOf f header (externs f header) name ≡ At index
+    pub found : slotOf f header (externs f header) name ≡ Index index
 
-  pub puts-a-slot : (i k : ℕ) → i < header .sections → k < count i → puts f header (ownMap f header) i k ≡ true → SlotAt (symbolText f header (relocationSymbol f header i k))
+  pub puts-a-slot : (i k : ℕ) → i < header .sections → k < count i → puts f header (isSymbol f header) i k ≡ true → SlotAt (symbolText f header (relocationSymbol f header i k))
   puts-a-slot i k a b t =
-      let s = externs-slot f header (ownMap f header) i k a b t in
+      let s = externs-slot f header (isSymbol f header) i k a b t in
       record { index = s .index; inside = s .inside; found = s .found }
 
   -- data and text that are undefined, common or of unknown place always have their slot for a target
   pub record SlotTarget (j : ℕ) : Type 0 where
     pub index : ℕ
     pub inside : index < length (externs f header)
-    pub is : targetOf f header (homes f header) (undefStart f header) (slotOf f header (externs f header)) j ≡ targets.Slot (undefStart f header + 4 * index)
+    pub is : targetOf f header (sectionHome f header) (undefStart f header) (slotOf f header (externs f header)) j ≡ targets.Slot (rva (undefStart f header + SLOT-SIZE * index))
 
   outside-slot : (j : ℕ) (p : Place) → outside p ≡ true
-      → dataTarget f header (homes f header) (undefStart f header) (slotOf f header (externs f header)) j p ≡ slotFor f header (undefStart f header) (slotOf f header (externs f header)) j
+      → dataTarget f header (sectionHome f header) (undefStart f header) (slotOf f header (externs f header)) j p ≡ slotFor f header (undefStart f header) (slotOf f header (externs f header)) j
   unfolding dataTarget
   outside-slot j (places.In n) e = absurd (let w : _≡_ {A = ℕ} 0 1 = cc in omega arith)
   outside-slot j places.Undefined e = refl
@@ -196,18 +193,18 @@ module _ (f : List ℕ) (c : Counts) (accepted : surveyOf f ≡ Accepted c) wher
   outside-slot j places.Other e = refl
 
   slot-of-data : (j : ℕ) → (kind f header j ≡ kinds.Data) ⊎ (kind f header j ≡ kinds.Text) → outside (symbolPlace f header j) ≡ true
-      → targetOf f header (homes f header) (undefStart f header) (slotOf f header (externs f header)) j ≡ slotFor f header (undefStart f header) (slotOf f header (externs f header)) j
+      → targetOf f header (sectionHome f header) (undefStart f header) (slotOf f header (externs f header)) j ≡ slotFor f header (undefStart f header) (slotOf f header (externs f header)) j
   unfolding targetBy
   slot-of-data j d t = ⊎-elim (λ e. rw e (outside-slot j (symbolPlace f header j) t)) (λ e. rw e (outside-slot j (symbolPlace f header j) t)) d
 
-  puts-data : (i k : ℕ) → isOwn (ownMap f header) (relocationSymbol f header i k) ≡ true
+  puts-data : (i k : ℕ) → isSymbol f header (relocationSymbol f header i k) ≡ true
       → (kind f header (relocationSymbol f header i k) ≡ kinds.Data) ⊎ (kind f header (relocationSymbol f header i k) ≡ kinds.Text)
-      → outside (symbolPlace f header (relocationSymbol f header i k)) ≡ true → puts f header (ownMap f header) i k ≡ true
+      → outside (symbolPlace f header (relocationSymbol f header i k)) ≡ true → puts f header (isSymbol f header) i k ≡ true
   unfolding puts
   puts-data i k own d t =
-      and-both (isOwn (ownMap f header) (relocationSymbol f header i k)) (putsName f header (relocationSymbol f header i k)) own (puts-by (kind f header (relocationSymbol f header i k)) _ _ d t)
+      and-both (isSymbol f header (relocationSymbol f header i k)) (putsName f header (relocationSymbol f header i k)) own (puts-by (kind f header (relocationSymbol f header i k)) _ _ d t)
 
-  pub data-has-slot : (i k : ℕ) → i < header .sections → k < count i → isOwn (ownMap f header) (relocationSymbol f header i k) ≡ true
+  pub data-has-slot : (i k : ℕ) → i < header .sections → k < count i → isSymbol f header (relocationSymbol f header i k) ≡ true
       → (kind f header (relocationSymbol f header i k) ≡ kinds.Data) ⊎ (kind f header (relocationSymbol f header i k) ≡ kinds.Text)
       → outside (symbolPlace f header (relocationSymbol f header i k)) ≡ true → SlotTarget (relocationSymbol f header i k)
   unfolding slotTarget pick
@@ -219,3 +216,25 @@ module _ (f : List ℕ) (c : Counts) (accepted : surveyOf f ≡ Accepted c) wher
         inside = s .inside;
         is = slot-of-data (relocationSymbol f header i k) d t ∙ rw (s .found, lt-ltb (s .index) MAX-EXTERNS n);
       }
+
+  -- ---- every fixup of the fix list: its value is exact at every base that load takes, and its bytes are mapped
+  -- each fixup that a relocation comes to
+  pub fixup-exact : (i k : ℕ) (x : Fix) → i < header .sections → k < count i → o i k ≡ Fixup x → Exact x
+  fixup-exact i k x a b e =
+      let r = fix-from (archBy (archOf (header .machine))) f header (isSymbol f header) (sectionHome f header) (undefStart f header) (slotOf f header (externs f header)) i k x e in
+      let t = target-near f header (sectionHome f header) (slotOf f header (externs f header)) (section-most f header) (relocationSymbol f header i k) (x .target) (r .resolved .reaches) in
+      let u = undef-fits f header pages-few in
+      record {
+        bits = r .resolved .bits;
+        place = places-fit i k x a b e;
+        target = omega arith;
+        addend = rw (r .resolved .is) (type-addend (archBy (archOf (header .machine))) (relocationType f header i k));
+      }
+
+  -- ---- of the whole list, by position
+  pub fixups-exact : (j : ℕ) (d : Fix) → j < length (fixList o count (header .sections)) → Exact (getD (fixList o count (header .sections)) j d)
+  fixups-exact = every-fixup Exact o count (header .sections) fixup-exact
+
+  pub fixups-inside : (j : ℕ) (d : Fix) → j < length (fixList o count (header .sections))
+      → (getD (fixList o count (header .sections)) j d) .place .0 + (getD (fixList o count (header .sections)) j d) .bits / 8 ≤ PAGE-SIZE * mappedPages f header
+  fixups-inside = every-fixup (λ x. x .place .0 + x .bits / 8 ≤ PAGE-SIZE * mappedPages f header) o count (header .sections) fixups-mapped

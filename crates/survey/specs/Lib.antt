@@ -1,6 +1,4 @@
-pub mod Listed
 pub mod Survey
 pub mod Surveying
 pub mod SurveyLaws
 pub mod Acceptance
-pub mod Fixups

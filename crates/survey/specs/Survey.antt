@@ -6,19 +6,18 @@ use lib.Dec.{leb, eqb}
 use lib.ListN.{length}
 use Rattle.refusal.specs.Refusal.{FILE-SIZE, MACHINE, SECTION-TABLE, SYMBOL-TABLE, SECTION-DATA, NAME, SECTION-NUMBER, PAGES, EXTERNS, TARGET, PLACE}
 use Rattle.util.specs.Pick.{pick}
-use Rattle.arch.specs.declared.Arch.{Arch}
-use Rattle.arch.specs.declared.Arch.the-variants.{X32}
-use Rattle.arch.specs.declared.Machine.{Machine}
-use Rattle.arch.specs.declared.Machine.the-variants.{Known, Unknown}
-use Rattle.arch.specs.Machine.{archOf}
+use Rattle.arch.specs.declared.Offset.{Offset}
+use Rattle.arch.specs.Machine.{archOf, archBy}
 use Rattle.object.specs.declared.Header.{Header}
 use Rattle.object.specs.Format.{headerOf}
 use Rattle.object.specs.Section.{relocationCount}
-use Rattle.object.specs.Symbol.{primaries}
+use Rattle.object.specs.Symbol.{isSymbol}
 use Rattle.layout.specs.Layout.{undefStart, mappedPages, tableRecords}
-use Rattle.layout.specs.Home.{homesTo}
-use Rattle.checks.specs.Limits.{MAX-EXTERNS}
-use Rattle.checks.specs.Checks.{sizeOk, machineOk, sectionTableOk, symbolTableOk, sectionsOk, namesOk, numbersOk, pagesOk, relocationTotal}
+use Rattle.homes.specs.Home.{sectionHome}
+use Rattle.homes.specs.Listed.{listedTotal}
+use Rattle.limits.specs.Limits.{MAX-EXTERNS}
+use Rattle.bounds.specs.Bounds.{sizeOk, machineOk, sectionTableOk, symbolTableOk, sectionsOk, relocationTotal}
+use Rattle.checks.specs.Checks.{namesOk, numbersOk, pagesOk}
 use Rattle.externs.specs.declared.Found.{Found}
 use Rattle.externs.specs.Externs.{externs}
 use Rattle.externs.specs.Slot.{slotOf}
@@ -29,7 +28,6 @@ use Rattle.fixups.specs.Tally.{tallyOf}
 use Rattle.survey.specs.declared.answer.Counts.{Counts}
 use Rattle.survey.specs.declared.answer.Survey.{Survey}
 use Rattle.survey.specs.declared.answer.Survey.the-variants.{Accepted, Refused}
-use Rattle.survey.specs.Listed.{listedTotal}
 
 -- ---- checks and their numbers
 pub record Check : Type 0 where
@@ -64,14 +62,10 @@ externChecks n = check (leb n MAX-EXTERNS) EXTERNS ∷ []
 abbrev pub targetChecks : Tally → List Check
 targetChecks t = check (eqb (t .refused) 0) TARGET ∷ check (eqb (t .outside) 0) PLACE ∷ []
 
--- ---- what the relocations come to. An unknown machine is refused before this is asked.
-abbrev pub archBy : Machine → Arch
-archBy (Known a) = a
-archBy Unknown = X32
-
-module _ (f : List ℕ) (h : Header) (map homes : List ℕ) where
+-- ---- what the relocations come to: `own` says which numbers are symbols', `home` where a section's home starts, `slot` finds a name's slot
+module _ (f : List ℕ) (h : Header) (own : ℕ → Bool) (home : ℕ → Offset) where
   abbrev pub outcomesBy : (List ℕ → Found) → ℕ → ℕ → Outcome
-  outcomesBy slot = outcome (archBy (archOf (h .machine))) f h map homes (undefStart f h) slot
+  outcomesBy slot = outcome (archBy (archOf (h .machine))) f h own home (undefStart f h) slot
 
   abbrev pub tallyBy : (List ℕ → Found) → Tally
   tallyBy slot = tallyOf (mappedPages f h) (outcomesBy slot) (relocationCount f h) (h .sections)
@@ -82,7 +76,7 @@ module _ (f : List ℕ) (h : Header) (map homes : List ℕ) where
       record {
         pages = mappedPages f h;
         sections = tableRecords f h;
-        symbols = listedTotal f h map homes;
+        symbols = listedTotal f h own home;
         externs = n;
         fixups = t .fixups;
         skips = t .skips;
@@ -93,23 +87,16 @@ module _ (f : List ℕ) (h : Header) (map homes : List ℕ) where
       }
 
 module _ (f : List ℕ) (h : Header) where
-  -- which records are symbols' own, and the home of each section
-  abbrev pub ownMap : List ℕ
-  ownMap = primaries f h (h .symbols)
-
-  abbrev pub homes : List ℕ
-  homes = homesTo f h (h .sections)
-
-  -- what becomes of relocation k of section i, with the file's own homes and extern names
+  -- what becomes of relocation k of section i, with the file's own symbols, homes and extern names
   abbrev pub outcomes : ℕ → ℕ → Outcome
-  outcomes = outcomesBy f h ownMap homes (slotOf f h (externs f h))
+  outcomes = outcomesBy f h (isSymbol f h) (sectionHome f h) (slotOf f h (externs f h))
 
   -- how many of each outcome there are, and the counts that survey answers
   abbrev pub tally : Tally
-  tally = tallyBy f h ownMap homes (slotOf f h (externs f h))
+  tally = tallyBy f h (isSymbol f h) (sectionHome f h) (slotOf f h (externs f h))
 
   abbrev pub counts : Counts
-  counts = countsBy f h ownMap homes (length (externs f h)) tally
+  counts = countsBy f h (isSymbol f h) (sectionHome f h) (length (externs f h)) tally
 
   -- 1 to 11 in this order, each over the whole file
   abbrev pub checks : List Check

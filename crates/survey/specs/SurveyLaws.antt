@@ -7,12 +7,13 @@ use Prim.Native.Nat.{ℕ, zero, suc, _≤_}
 use native.Mathlib.Omega.{arith}
 use lib.Dec.{leb, eqb}
 use borrow.Author.Tests.{leb-true, ne-eqb}
-use Rattle.util.specs.Pick.{pick, yes-no, and-left, passed, passed-on}
+use Rattle.util.specs.Pick.{pick, yes-no, and-left, head-passes, rest-passes}
 use Rattle.object.specs.declared.Header.{Header}
 use Rattle.object.specs.Format.{headerOf}
 use Rattle.layout.specs.Layout.{mappedPages}
-use Rattle.checks.specs.Limits.{MAX-SECTIONS, MAX-SYMBOLS, MAX-PAGES}
-use Rattle.checks.specs.Checks.{sizeOk, machineOk, sectionTableOk, symbolTableOk, sectionsOk, namesOk, numbersOk, pagesOk}
+use Rattle.limits.specs.Limits.{MAX-SECTIONS, MAX-SYMBOLS, MAX-PAGES}
+use Rattle.bounds.specs.Bounds.{sizeOk, machineOk, sectionTableOk, symbolTableOk, sectionsOk}
+use Rattle.checks.specs.Checks.{namesOk, numbersOk, pagesOk}
 use Rattle.survey.specs.declared.answer.Counts.{Counts}
 use Rattle.survey.specs.declared.answer.Survey.the-variants.{Accepted, Refused}
 use Rattle.survey.specs.Survey.{Check, check, firstFailed, recordChecks, answerBy}
@@ -22,11 +23,11 @@ use Rattle.survey.specs.Surveying.{Fits}
 module _ (ok : Bool) (n : ℕ) (cs : List Check) where
   pub check-holds : firstFailed (check ok (suc n) ∷ cs) ≡ 0 → ok ≡ true
   unfolding firstFailed
-  check-holds e = passed ok (firstFailed cs) (suc n) e (λ z. absurd (omega arith))
+  check-holds e = head-passes ok (firstFailed cs) (suc n) e (λ z. absurd (omega arith))
 
   pub checks-hold : firstFailed (check ok (suc n) ∷ cs) ≡ 0 → firstFailed cs ≡ 0
   unfolding firstFailed
-  checks-hold e = passed-on ok (firstFailed cs) (suc n) e (λ z. absurd (omega arith))
+  checks-hold e = rest-passes ok (firstFailed cs) (suc n) e (λ z. absurd (omega arith))
 
 -- of two lists, the second is asked only where the first has no failure
 pub failed-first : (xs ys : List Check) (n : ℕ) → firstFailed xs ≡ suc n → firstFailed (xs ++ ys) ≡ suc n

@@ -1,45 +1,40 @@
 // Survey: counts what a file needs, or says the first refusal that applies. It changes nothing.
 mod answer;
-mod listed;
 
 pub use answer::Counts;
 pub use answer::Survey;
 use arch::Arch;
-use arch::Machine;
 use externs::Names;
 use fixups::Tally;
-pub use listed::cell_of;
-pub use listed::is_listed;
-pub use listed::listed_offset;
-pub use listed::listed_total;
 use object::Header;
 ghost use mathlib.Core.Path.{_≡_};
-ghost use Prim.Native.Nat.{_≤_, _%_, _^_};
-ghost use Rattle.arch.specs.Machine.{archOf};
-ghost use Rattle.checks.specs.Limits.{MAX-PAGES};
-ghost use Rattle.layout.specs.Layout.{undefStart, mappedPages};
-ghost use Rattle.externs.specs.Bisect.{bisect};
+ghost use Prim.Native.Nat.{_≤_};
 ghost use lib.ListN.{length};
-ghost use Rattle.survey.specs.Survey.{firstFailed, recordChecks, targetChecks, archBy, tallyBy, countsBy, ownMap, homes, answerBy, surveyOf};
+ghost use Rattle.limits.specs.Limits.{MAX-PAGES};
+ghost use Rattle.object.specs.Symbol.{isOwn, isSymbol};
+ghost use Rattle.layout.specs.Layout.{mappedPages};
+ghost use Rattle.homes.specs.Home.{homeIn, sectionHome};
+ghost use Rattle.externs.specs.Bisect.{bisect};
+ghost use Rattle.survey.specs.Survey.{firstFailed, recordChecks, targetChecks, tallyBy, countsBy, answerBy, surveyOf};
 ghost use Rattle.survey.specs.Surveying.{Fits, plannedBy, answerWith};
 
 // The first of refusals 1 to 8 that applies, or 0.
 pub fn records_code(f: &[u8], h: Header) -> u64
     ensures { λ r. ⌜ r ≡ firstFailed (recordChecks (now (f .entry)) h) ⌝ }
 {
-    if !checks::size_ok(f) {
+    if !bounds::size_ok(f) {
         return refusal::FILE_SIZE;
     }
-    if !checks::machine_ok(h) {
+    if !bounds::machine_ok(h) {
         return refusal::MACHINE;
     }
-    if !checks::section_table_ok(f, h) {
+    if !bounds::section_table_ok(f, h) {
         return refusal::SECTION_TABLE;
     }
-    if !checks::symbol_table_ok(f, h) {
+    if !bounds::symbol_table_ok(f, h) {
         return refusal::SYMBOL_TABLE;
     }
-    if !checks::sections_ok(f, h) {
+    if !bounds::sections_ok(f, h) {
         return refusal::SECTION_DATA;
     }
     if !checks::names_ok(f, h) {
@@ -54,47 +49,23 @@ pub fn records_code(f: &[u8], h: Header) -> u64
     0
 }
 
-pub fn machine_of(h: Header) -> Arch
-    ensures { λ r. ⌜ r ≡ archBy (archOf (h .machine)) ⌝ }
-{
-    let m = Arch::of_machine(h.machine);
-    match m {
-        Machine::Known(a) => a,
-        Machine::Unknown => Arch::X32,
-    }
-}
-
-// UNDEF's start and the mapped pages in 32 bits, in which those of an image of at most 4,096 pages fit.
-pub fn undef_offset(f: &[u8], h: Header) -> u32
-    ensures { λ r. ⌜ r ≡ undefStart (now (f .entry)) h % 2 ^ 32 ⌝ }
-{
-    let at = layout::undef_start(f, h) % 0x100000000;
-    at as u32
-}
-
-pub fn page_total(f: &[u8], h: Header) -> u32
-    ensures { λ r. ⌜ r ≡ mappedPages (now (f .entry)) h % 2 ^ 32 ⌝ }
-{
-    let pages = layout::mapped_pages(f, h) % 0x100000000;
-    pages as u32
-}
-
-fn tally_by(f: &[u8], h: Header, map: &[u8], homes: &[u32], set: &[u32]) -> Tally
+fn tally_by(f: &[u8], h: Header, own: &[u8], homes: &[u32], slots: &[u32]) -> Tally
     requires { ⌜ mappedPages (now f) h ≤ MAX-PAGES ⌝ }
-    ensures { λ r. ⌜ r ≡ tallyBy (now (f .entry)) h (now (map .entry)) (now (homes .entry)) (bisect (now (f .entry)) h (now (set .entry))) ⌝ }
+    ensures { λ r. ⌜ r ≡ tallyBy (now (f .entry)) h (isOwn (now (own .entry))) (homeIn (now (homes .entry))) (bisect (now (f .entry)) h (now (slots .entry))) ⌝ }
 {
-    let undef = undef_offset(f, h);
-    let pages = page_total(f, h);
-    fixups::tally_of(machine_of(h), f, h, map, homes, undef, set, pages)
+    let undef = layout::undef_offset(f, h);
+    let pages = layout::page_total(f, h);
+    let arch = Arch::by_machine(h.machine);
+    fixups::tally_of(arch, f, h, own, homes, undef, slots, pages)
 }
 
-fn counts_by(f: &[u8], h: Header, map: &[u8], homes: &[u32], n: usize, t: Tally) -> Counts
-    ensures { λ r. ⌜ r ≡ countsBy (now (f .entry)) h (now (map .entry)) (now (homes .entry)) n t ⌝ }
+fn counts_by(f: &[u8], h: Header, own: &[u8], homes: &[u32], n: usize, t: Tally) -> Counts
+    ensures { λ r. ⌜ r ≡ countsBy (now (f .entry)) h (isOwn (now (own .entry))) (homeIn (now (homes .entry))) n t ⌝ }
 {
     let pages = layout::mapped_pages(f, h);
     let records = layout::table_records(f, h) as u64;
-    let symbols = listed::listed_total(f, h, map, homes) as u64;
-    let relocations = checks::relocation_total(f, h);
+    let symbols = homes::listed_total(f, h, own, homes) as u64;
+    let relocations = bounds::relocation_total(f, h);
     Counts {
         pages: pages,
         sections: records,
@@ -127,59 +98,60 @@ fn verdict(t: Tally, c: Counts) -> Survey
 }
 
 // With the extern names known.
-fn survey_targets(f: &[u8], h: Header, map: &[u8], homes: &[u32], set: &[u32]) -> Survey
+fn survey_targets(f: &[u8], h: Header, own: &[u8], homes: &[u32], slots: &[u32]) -> Survey
     requires { ⌜ mappedPages (now f) h ≤ MAX-PAGES ⌝ }
     ensures { λ r.
-        ⌜ r ≡ answerBy (firstFailed (targetChecks (tallyBy (now (f .entry)) h (now (map .entry)) (now (homes .entry)) (bisect (now (f .entry)) h (now (set .entry))))))
-        (countsBy (now (f .entry)) h (now (map .entry)) (now (homes .entry)) (length (now (set .entry))) (tallyBy (now (f .entry)) h (now (map .entry)) (now (homes .entry)) (bisect (now (f .entry)) h (now (set .entry))))) ⌝ }
+        ⌜ r ≡ answerBy (firstFailed (targetChecks (tallyBy (now (f .entry)) h (isOwn (now (own .entry))) (homeIn (now (homes .entry))) (bisect (now (f .entry)) h (now (slots .entry))))))
+        (countsBy (now (f .entry)) h (isOwn (now (own .entry))) (homeIn (now (homes .entry))) (length (now (slots .entry))) (tallyBy (now (f .entry)) h (isOwn (now (own .entry))) (homeIn (now (homes .entry))) (bisect (now (f .entry)) h (now (slots .entry))))) ⌝ }
 {
-    let t = tally_by(f, h, map, homes, set);
-    verdict(t, counts_by(f, h, map, homes, set.len(), t))
+    let t = tally_by(f, h, own, homes, slots);
+    verdict(t, counts_by(f, h, own, homes, slots.len(), t))
 }
 
 // The same for any lists, behind refusal 8.
-pub fn survey_planned(f: &[u8], h: Header, map: &[u8], homes: &[u32], set: &[u32]) -> Survey
-    ensures { λ r. ⌜ r ≡ plannedBy (now (f .entry)) h (now (map .entry)) (now (homes .entry)) (now (set .entry)) ⌝ }
+pub fn survey_planned(f: &[u8], h: Header, own: &[u8], homes: &[u32], slots: &[u32]) -> Survey
+    ensures { λ r. ⌜ r ≡ plannedBy (now (f .entry)) h (isOwn (now (own .entry))) (homeIn (now (homes .entry))) (now (slots .entry)) ⌝ }
 {
     if checks::pages_ok(f, h) {
-        survey_targets(f, h, map, homes, set)
+        survey_targets(f, h, own, homes, slots)
     } else {
         Survey::Refused(refusal::PAGES)
     }
 }
 
 // Refusal 9, and what follows.
-fn survey_externs(f: &[u8], h: Header, map: &[u8], homes: &[u32]) -> Survey
+fn survey_externs(f: &[u8], h: Header, own: &[u8], homes: &[u32]) -> Survey
     requires { ⌜ mappedPages (now f) h ≤ MAX-PAGES ⌝ }
-    ensures { λ r. ⌜ r ≡ answerWith (now (f .entry)) h (now (map .entry)) (now (homes .entry)) ⌝ }
+    ensures { λ r. ⌜ r ≡ answerWith (now (f .entry)) h (isOwn (now (own .entry))) (homeIn (now (homes .entry))) ⌝ }
 {
-    let mut set = [0u32; 1025];
-    match externs::collect(f, h, map, &mut set) {
+    let mut slots = [0u32; limits::EXTERN_ROOM];
+    match externs::collect(f, h, own, &mut slots) {
         Names::TooMany => Survey::Refused(refusal::EXTERNS),
-        Names::Count(n) => survey_targets(f, h, map, homes, le::words(&set, n)),
+        Names::Count(n) => survey_targets(f, h, own, homes, le::words(&slots, n)),
     }
 }
 
 // Each section's home, filled once.
-fn survey_homes(f: &[u8], h: Header, map: &[u8]) -> Survey
+fn survey_homes(f: &[u8], h: Header, own: &[u8]) -> Survey
     requires { ⌜ Fits (now f) h ⌝ }
-    ensures { λ r. ⌜ r ≡ answerWith (now (f .entry)) h (now (map .entry)) (homes (now (f .entry)) h) ⌝ }
+    ensures { λ r. ⌜ r ≡ answerWith (now (f .entry)) h (isOwn (now (own .entry))) (sectionHome (now (f .entry)) h) ⌝ }
 {
-    let mut homes = [0u32; 256];
-    layout::fill_homes(f, h, &mut homes);
-    survey_externs(f, h, map, le::words(&homes, h.sections as usize))
+    let mut homes = [0u32; limits::MAX_SECTIONS];
+    homes::fill_homes(f, h, &mut homes);
+    survey_externs(f, h, own, le::words(&homes, h.sections as usize))
 }
 
 // A mark for each symbol record, filled once.
 fn survey_relocations(f: &[u8], h: Header) -> Survey
     requires { ⌜ Fits (now f) h ⌝ }
-    ensures { λ r. ⌜ r ≡ answerWith (now (f .entry)) h (ownMap (now (f .entry)) h) (homes (now (f .entry)) h) ⌝ }
+    ensures { λ r. ⌜ r ≡ answerWith (now (f .entry)) h (isSymbol (now (f .entry)) h) (sectionHome (now (f .entry)) h) ⌝ }
 {
-    let mut map = [0u8; 16384];
-    object::fill_primaries(f, h, &mut map);
-    survey_homes(f, h, le::part(&map, 0, h.symbols as usize))
+    let mut own = [0u8; limits::MAX_SYMBOLS];
+    object::fill_primaries(f, h, &mut own);
+    survey_homes(f, h, le::part(&own, 0, h.symbols as usize))
 }
 
+// The counts of a file, or the first refusal that applies.
 pub fn survey(f: &[u8]) -> Survey
     ensures { λ r. ⌜ r ≡ surveyOf (now (f .entry)) ⌝ }
 {

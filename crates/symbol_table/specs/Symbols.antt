@@ -1,29 +1,29 @@
--- The symbol table (01, "Layout, slots and fixups"): the listed symbols in file order. `map` marks the symbols' own records, `homes` and
--- `records` keep each section's home.
+-- The symbol table (01, "Layout, slots and fixups"): the listed symbols in file order. `own` says which numbers are symbols', `home` where a
+-- section's home starts, and `records` keeps its table record.
+use mathlib.Core.Bool.{Bool}
 use mathlib.Core.List.{List, [], _∷_}
 use Prim.Native.Nat.{ℕ, _+_}
+use lib.ListN.{getD}
+use Rattle.arch.specs.declared.Offset.{Offset}
 use Rattle.object.specs.declared.Header.{Header}
 use Rattle.object.specs.Symbol.{kind, symbolPlace}
 use Rattle.kinds.specs.Symbol.{kindNumber}
 use Rattle.names.specs.Name.{symbolName}
-use Rattle.survey.specs.Listed.{cellOf, listed, listedOffset}
+use Rattle.homes.specs.Listed.{ofPlace, listed, listedOffset}
 use Rattle.words.specs.Words.{nameStart, nameLength}
 use Rattle.words.specs.Picked.{picked}
 
--- a record is six words: address, kind, name start, name length, symbol number, home
-abbrev pub SYMBOL-BYTES : ℕ
-SYMBOL-BYTES = 48
-
--- the home of a symbol is its section's record in the section table
-unfoldable pub symbolWords : List ℕ → Header → ℕ → List ℕ → List ℕ → ℕ → List ℕ
-symbolWords f h base homes records j =
-    (base + listedOffset f h homes j)
+-- a record is six words: address, kind, name start, name length, symbol number, home. The home of a symbol is its section's record in the section table
+unfoldable pub symbolWords : List ℕ → Header → ℕ → (ℕ → Offset) → List ℕ → ℕ → List ℕ
+symbolWords f h base home records j =
+    (base + listedOffset f h home j)
     ∷ kindNumber (kind f h j)
     ∷ nameStart (symbolName f h j)
     ∷ nameLength (symbolName f h j)
     ∷ j
-    ∷ cellOf records (symbolPlace f h j)
+    ∷ ofPlace (λ i. getD records i 0) 0 (symbolPlace f h j)
     ∷ []
 
-abbrev pub symbolTable : List ℕ → Header → ℕ → List ℕ → List ℕ → List ℕ → List ℕ
-symbolTable f h base map homes records = picked (listed f h map homes) (symbolWords f h base homes records) (h .symbols)
+-- the table
+abbrev pub symbolTable : List ℕ → Header → ℕ → (ℕ → Bool) → (ℕ → Offset) → List ℕ → List ℕ
+symbolTable f h base own home records = picked (listed f h own home) (symbolWords f h base home records) (h .symbols)

@@ -2,7 +2,8 @@
 use mathlib.Core.Path.{_≡_}
 use mathlib.Core.Bool.{Bool, true, false}
 use mathlib.Core.List.{List}
-use Prim.Native.Nat.{ℕ, suc, _+_, _-_, _*_, _<_, _≤_}
+use Prim.Native.Nat.{ℕ, suc, _+_, _-_, _*_, _^_, _<_, _≤_}
+use native.Mathlib.Nat.{mul-le-mul-left}
 use native.Mathlib.Omega.{arith}
 use borrow.Author.Tests.{lt-ltb, le-ltb}
 use lib.Dec.{eqb}
@@ -14,32 +15,59 @@ use Rattle.arch.specs.Address.{va}
 use Rattle.refusal.specs.Refusal.{NO-ENTRY}
 use Rattle.refusal.specs.declared.Number.{Number}
 use Rattle.refusal.specs.declared.Number.the-variants.{Value, Refusal}
-use Rattle.words.specs.Words.{wordOf}
+use Rattle.words.specs.Words.{WORD, wordOf}
 use Rattle.symbols.specs.declared.Symbol.{Symbol}
 use Rattle.symbols.specs.declared.SymbolAnswer.the-variants as S
 use Rattle.symbols.specs.declared.Extern.{Extern}
 use Rattle.symbols.specs.declared.ExternAnswer.the-variants as E
-use Rattle.symbols.specs.Symbol.{symbolCount, externCount, symbolRecord, externRecord, symbolEntry, externEntry, nameOf, lastTo, firstFrom, liesAt}
+use Rattle.symbols.specs.Symbol.{
+  SYMBOL-WORDS,
+  EXTERN-WORDS,
+  ADDRESS,
+  KIND,
+  NAME-START,
+  NAME-LENGTH,
+  NUMBER,
+  HOME,
+  EXTERN-NUMBER,
+  symbolCount,
+  externCount,
+  symbolRecord,
+  externRecord,
+  symbolEntry,
+  externEntry,
+  nameOf,
+  lastTo,
+  firstFrom,
+  liesAt,
+}
 
 -- ---- where a word stands
-pub symbol-word-is : (table : List ℕ) (k w x : ℕ) → x ≡ get 8 table (48 * k + 8 * w) → x ≡ wordOf 6 table k w
+pub word-is : (W : ℕ) (table : List ℕ) (k w x : ℕ) → x ≡ get WORD table (WORD * (W * k + w)) → x ≡ wordOf W table k w
 unfolding wordOf
-symbol-word-is table k w x e = let q : 8 * (6 * k + w) ≡ 48 * k + 8 * w = omega arith in rw q e
+word-is W table k w x e = e
 
-pub extern-word-is : (table : List ℕ) (k w x : ℕ) → x ≡ get 8 table (32 * k + 8 * w) → x ≡ wordOf 4 table k w
-unfolding wordOf
-extern-word-is table k w x e = let q : 8 * (4 * k + w) ≡ 32 * k + 8 * w = omega arith in rw q e
+-- the words of a name lie within 64 bits, since those of the n records do
+module _ (W n k : ℕ) (fits : WORD * (W * n) ≤ 2 ^ 64) (more : k < n) (wide : NAME-LENGTH < W) where
+  pub length-fits : WORD * (W * k + NAME-LENGTH) < 2 ^ 64
+  length-fits = let z : W * suc k ≤ W * n = mul-le-mul-left W more in omega arith
 
-pub ruleset places = (symbol-word-is, extern-word-is)
+  pub start-fits : WORD * (W * k + NAME-START) < 2 ^ 64
+  start-fits = let z = length-fits in omega arith
 
 -- ---- a record of the words that were read
 module _ (table : List ℕ) (k : ℕ) where
-  pub symbol-record-is : (a b c d e f : ℕ)
-      → a ≡ wordOf 6 table k 0 → b ≡ wordOf 6 table k 1 → c ≡ wordOf 6 table k 2 → d ≡ wordOf 6 table k 3 → e ≡ wordOf 6 table k 4 → f ≡ wordOf 6 table k 5
+  abbrev symbol : ℕ → ℕ
+  symbol = wordOf SYMBOL-WORDS table k
+
+  abbrev name : ℕ → ℕ
+  name = wordOf EXTERN-WORDS table k
+
+  pub symbol-record-is : (a b c d e f : ℕ) → a ≡ symbol ADDRESS → b ≡ symbol KIND → c ≡ symbol NAME-START → d ≡ symbol NAME-LENGTH → e ≡ symbol NUMBER → f ≡ symbol HOME
       → _≡_ {A = Symbol} (record { address = va a; kind = b; «name_start» = c; «name_length» = d; number = e; home = f }) (symbolRecord table k)
   symbol-record-is a b c d e f p q r s t u = rw (p, q, r, s, t, u)
 
-  pub extern-record-is : (a b c d : ℕ) → a ≡ wordOf 4 table k 0 → b ≡ wordOf 4 table k 1 → c ≡ wordOf 4 table k 2 → d ≡ wordOf 4 table k 3
+  pub extern-record-is : (a b c d : ℕ) → a ≡ name ADDRESS → b ≡ name EXTERN-NUMBER → c ≡ name NAME-START → d ≡ name NAME-LENGTH
       → _≡_ {A = Extern} (record { address = va a; number = b; «name_start» = c; «name_length» = d }) (externRecord table k)
   extern-record-is a b c d p q r s = rw (p, q, r, s)
 
@@ -62,7 +90,7 @@ module _ (table : List ℕ) (k : ℕ) where
   extern-past h = rw (le-ltb k (externCount table) h)
 
   module _ (W n : ℕ) (file : List ℕ) where
-    pub name-there : (at m : ℕ) (r : List ℕ) → k < n → r ≡ part file at m → at ≡ wordOf W table k 2 → m ≡ wordOf W table k 3 → r ≡ nameOf W n file table k
+    pub name-there : (at m : ℕ) (r : List ℕ) → k < n → r ≡ part file at m → at ≡ wordOf W table k NAME-START → m ≡ wordOf W table k NAME-LENGTH → r ≡ nameOf W n file table k
     unfolding nameOf pick
     name-there at m r h e p q = rw (lt-ltb k n h, ← p, ← q) e
 
@@ -70,13 +98,15 @@ module _ (table : List ℕ) (k : ℕ) where
     unfolding nameOf pick
     name-past r h e = rw (le-ltb k n h, e) (part-none file 0)
 
-pub ruleset entries = (symbol-there, symbol-past, extern-there, extern-past, name-there, name-past)
+pub ruleset entries = (symbol-there, symbol-past, extern-there, extern-past)
+
+pub ruleset name-ways = (start-fits, length-fits, name-there, name-past)
 
 -- a name that a call gave, compared
 pub same-by : (x y name : List ℕ) {r : Bool} → r ≡ sameBytes x name → x ≡ y → r ≡ sameBytes y name
 same-by x y name p e = rw (← e) p
 
-pub lies-at-is : (table : List ℕ) (a : VA) (k x : ℕ) → x ≡ wordOf 6 table k 0 → eqb x (a .0) ≡ liesAt table a k
+pub lies-at-is : (table : List ℕ) (a : VA) (k x : ℕ) → x ≡ wordOf SYMBOL-WORDS table k ADDRESS → eqb x (a .0) ≡ liesAt table a k
 unfolding liesAt
 lies-at-is table a k x e = rw e
 

@@ -18,9 +18,38 @@ use Rattle.symbols.specs.declared.Extern.{Extern}
 use Rattle.symbols.specs.declared.ExternAnswer.{ExternAnswer}
 use Rattle.symbols.specs.declared.ExternAnswer.the-variants as E
 use Rattle.refusal.specs.Refusal.{NO-ENTRY}
-use Rattle.words.specs.Words.{wordOf}
-use Rattle.symbol_table.specs.Symbols.{SYMBOL-BYTES}
-use Rattle.tables.specs.Externs.{EXTERN-BYTES}
+use Rattle.words.specs.Words.{WORD, wordOf}
+use Rattle.limits.specs.Limits.{SYMBOL-BYTES, EXTERN-BYTES}
+
+-- ---- the tables
+-- how many words a record has
+abbrev pub SYMBOL-WORDS : ℕ
+SYMBOL-WORDS = SYMBOL-BYTES / WORD
+
+abbrev pub EXTERN-WORDS : ℕ
+EXTERN-WORDS = EXTERN-BYTES / WORD
+
+-- where each stands; address and name stand alike in both tables
+abbrev pub ADDRESS : ℕ
+ADDRESS = 0
+
+abbrev pub KIND : ℕ
+KIND = 1
+
+abbrev pub NAME-START : ℕ
+NAME-START = 2
+
+abbrev pub NAME-LENGTH : ℕ
+NAME-LENGTH = 3
+
+abbrev pub NUMBER : ℕ
+NUMBER = 4
+
+abbrev pub HOME : ℕ
+HOME = 5
+
+abbrev pub EXTERN-NUMBER : ℕ
+EXTERN-NUMBER = 1
 
 -- the whole records of a table
 abbrev pub symbolCount : List ℕ → ℕ
@@ -32,54 +61,63 @@ externCount table = length table / EXTERN-BYTES
 -- ---- a record by number
 abbrev pub symbolRecord : List ℕ → ℕ → Symbol
 symbolRecord table k = record {
-  address = va (wordOf 6 table k 0);
-  kind = wordOf 6 table k 1;
-  «name_start» = wordOf 6 table k 2;
-  «name_length» = wordOf 6 table k 3;
-  number = wordOf 6 table k 4;
-  home = wordOf 6 table k 5;
+  address = va (wordOf SYMBOL-WORDS table k ADDRESS);
+  kind = wordOf SYMBOL-WORDS table k KIND;
+  «name_start» = wordOf SYMBOL-WORDS table k NAME-START;
+  «name_length» = wordOf SYMBOL-WORDS table k NAME-LENGTH;
+  number = wordOf SYMBOL-WORDS table k NUMBER;
+  home = wordOf SYMBOL-WORDS table k HOME;
 }
 
 abbrev pub externRecord : List ℕ → ℕ → Extern
 externRecord table k = record {
-  address = va (wordOf 4 table k 0);
-  number = wordOf 4 table k 1;
-  «name_start» = wordOf 4 table k 2;
-  «name_length» = wordOf 4 table k 3;
+  address = va (wordOf EXTERN-WORDS table k ADDRESS);
+  number = wordOf EXTERN-WORDS table k EXTERN-NUMBER;
+  «name_start» = wordOf EXTERN-WORDS table k NAME-START;
+  «name_length» = wordOf EXTERN-WORDS table k NAME-LENGTH;
 }
 
+-- below the count the record, else a refusal
 unfoldable pub symbolEntry : List ℕ → ℕ → SymbolAnswer
 symbolEntry table k = pick (ltb k (symbolCount table)) (S.Entry (symbolRecord table k)) (S.Refused NO-ENTRY)
 
 unfoldable pub externEntry : List ℕ → ℕ → ExternAnswer
 externEntry table k = pick (ltb k (externCount table)) (E.Entry (externRecord table k)) (E.Refused NO-ENTRY)
 
--- ---- the name of record k of n, of W words each, as that part of the file: start and length are its words 2 and 3
+-- ---- a record by name
+-- the name of record k of n, of W words each, as that part of the file
 unfoldable pub nameOf : ℕ → ℕ → List ℕ → List ℕ → ℕ → List ℕ
-nameOf W n file table k = pick (ltb k n) (part file (wordOf W table k 2) (wordOf W table k 3)) []
+nameOf W n file table k = pick (ltb k n) (part file (wordOf W table k NAME-START) (wordOf W table k NAME-LENGTH)) []
 
+-- record k has that name
 abbrev pub hasName : ℕ → ℕ → List ℕ → List ℕ → List ℕ → ℕ → Bool
 hasName W n file table name k = sameBytes (nameOf W n file table k) name
 
--- ---- the last below n of which p holds, and the first from k on of n
+-- the last below n of which p holds
 unfoldable pub lastTo : (ℕ → Bool) → ℕ → Number
 lastTo p zero = Refusal NO-ENTRY
 lastTo p (suc n) = pick (p n) (Value n) (lastTo p n)
 
+-- a name finds the last
+abbrev pub lastNamed : ℕ → ℕ → List ℕ → List ℕ → List ℕ → Number
+lastNamed W n file table name = lastTo (hasName W n file table name) n
+
+abbrev pub symbolNamed : List ℕ → List ℕ → List ℕ → Number
+symbolNamed file table name = lastNamed SYMBOL-WORDS (symbolCount table) file table name
+
+abbrev pub externNamed : List ℕ → List ℕ → List ℕ → Number
+externNamed file table name = lastNamed EXTERN-WORDS (externCount table) file table name
+
+-- ---- a record by address
+-- the first from k on of n of which p holds
 unfoldable pub firstFrom : (ℕ → Bool) → ℕ → ℕ → Number
 firstFrom p k zero = Refusal NO-ENTRY
 firstFrom p k (suc n) = pick (p k) (Value k) (firstFrom p (suc k) n)
 
--- a name finds the last
-abbrev pub symbolNamed : List ℕ → List ℕ → List ℕ → Number
-symbolNamed file table name = lastTo (hasName 6 (symbolCount table) file table name) (symbolCount table)
-
-abbrev pub externNamed : List ℕ → List ℕ → List ℕ → Number
-externNamed file table name = lastTo (hasName 4 (externCount table) file table name) (externCount table)
+-- record k lies at that address
+unfoldable pub liesAt : List ℕ → VA → ℕ → Bool
+liesAt table a k = eqb (wordOf SYMBOL-WORDS table k ADDRESS) (a .0)
 
 -- an address finds all, one after another
-unfoldable pub liesAt : List ℕ → VA → ℕ → Bool
-liesAt table a k = eqb (wordOf 6 table k 0) (a .0)
-
 abbrev pub symbolAt : List ℕ → VA → ℕ → Number
 symbolAt table a from = firstFrom (liesAt table a) from (symbolCount table - from)

@@ -10,7 +10,7 @@ use Rattle.util.specs.Pick.{pick}
 use Rattle.arch.specs.declared.VA.{VA}
 use Rattle.refusal.specs.declared.Number.the-variants.{Value, Refusal}
 use Rattle.refusal.specs.Refusal.{NO-ENTRY}
-use Rattle.symbols.specs.Symbol.{symbolCount, hasName, lastTo, firstFrom, symbolNamed, liesAt, symbolAt}
+use Rattle.symbols.specs.Symbol.{symbolCount, hasName, lastTo, lastNamed, firstFrom, liesAt, symbolAt}
 
 -- ---- the last below n of which p holds
 module _ (p : ℕ → Bool) where
@@ -43,14 +43,13 @@ module _ (p : ℕ → Bool) where
   first-none zero i n = refl
   first-none (suc m) i n = let f : p i ≡ false = n i (omega arith) (omega arith) in rw f (first-none m (suc i) (λ j c d. n j (omega arith) (omega arith)))
 
--- ---- a name finds the last symbol in file order that has it, and is refused by 20 if none has
-module _ (file table name : List ℕ) where
-  pub name-finds-the-last : (k : ℕ) → k < symbolCount table → hasName 6 (symbolCount table) file table name k ≡ true
-      → ((j : ℕ) → k < j → j < symbolCount table → hasName 6 (symbolCount table) file table name j ≡ false) → symbolNamed file table name ≡ Value k
-  name-finds-the-last k l h n = last-is (hasName 6 (symbolCount table) file table name) (symbolCount table) k l h n
+-- ---- a name finds the last record in file order that has it, and is refused by 20 if none has; of symbols and of extern names
+module _ (W n : ℕ) (file table name : List ℕ) where
+  pub name-finds-the-last : (k : ℕ) → k < n → hasName W n file table name k ≡ true → ((j : ℕ) → k < j → j < n → hasName W n file table name j ≡ false) → lastNamed W n file table name ≡ Value k
+  name-finds-the-last k l h o = last-is (hasName W n file table name) n k l h o
 
-  pub no-such-name : ((j : ℕ) → j < symbolCount table → hasName 6 (symbolCount table) file table name j ≡ false) → symbolNamed file table name ≡ Refusal 20
-  no-such-name n = last-none (hasName 6 (symbolCount table) file table name) (symbolCount table) n
+  pub no-such-name : ((j : ℕ) → j < n → hasName W n file table name j ≡ false) → lastNamed W n file table name ≡ Refusal NO-ENTRY
+  no-such-name o = last-none (hasName W n file table name) n o
 
 -- ---- an address finds all: asked again from one more than the last answer, it gives each in turn, and then 20
 module _ (table : List ℕ) (x : VA) (from : ℕ) where
@@ -58,5 +57,5 @@ module _ (table : List ℕ) (x : VA) (from : ℕ) where
       → symbolAt table x from ≡ Value k
   address-finds-the-next k a l h n = first-is (liesAt table x) (symbolCount table - from) from k a (omega arith) h n
 
-  pub no-more-at-address : ((j : ℕ) → from ≤ j → j < symbolCount table → liesAt table x j ≡ false) → symbolAt table x from ≡ Refusal 20
+  pub no-more-at-address : ((j : ℕ) → from ≤ j → j < symbolCount table → liesAt table x j ≡ false) → symbolAt table x from ≡ Refusal NO-ENTRY
   no-more-at-address n = first-none (liesAt table x) (symbolCount table - from) from (λ j a b. n j a (omega arith))

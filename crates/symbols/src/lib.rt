@@ -1,12 +1,17 @@
 // Questions to the tables of symbols and of extern names that load wrote. Numbers are those of the records, from 0.
 ghost use mathlib.Core.Path.{_≡_};
 ghost use Prim.Native.Nat.{_+_, _*_, _≤_, _<_, _^_};
-ghost use Rattle.words.specs.Words.{wordOf};
+ghost use Rattle.limits.specs.Limits.{SYMBOL-BYTES, EXTERN-BYTES};
+ghost use Rattle.words.specs.Words.{WORD, wordOf};
 ghost use Rattle.symbols.specs.Symbol.{
+  SYMBOL-WORDS,
+  EXTERN-WORDS,
+  NAME-LENGTH,
   symbolCount,
   externCount,
   nameOf,
   hasName,
+  lastNamed,
   symbolRecord,
   symbolEntry,
   symbolNamed,
@@ -20,7 +25,7 @@ use arch::VA;
 use refusal::NO_ENTRY;
 use refusal::Number;
 
-// A record of the symbol table, and of the table of extern names, as docs/HOST.md has them.
+// A record of the symbol table, as docs/HOST.md has it.
 pub struct Symbol {
     pub address: VA,
     pub kind: u64,
@@ -30,6 +35,7 @@ pub struct Symbol {
     pub home: u64,
 }
 
+// A record of the table of extern names.
 pub struct Extern {
     pub address: VA,
     pub number: u64,
@@ -48,35 +54,89 @@ pub enum ExternAnswer {
     Refused(u64),
 }
 
-const SYMBOL_BYTES: usize = 48;
+// How many words a record has.
+const SYMBOL_WORDS: u8 = 6;
 
-const EXTERN_BYTES: usize = 32;
+const EXTERN_WORDS: u8 = 4;
+
+// Where each stands; address and name stand alike in both tables.
+const ADDRESS: u8 = 0;
+
+const KIND: u8 = 1;
+
+const NAME_START: u8 = 2;
+
+const NAME_LENGTH: u8 = 3;
+
+const NUMBER: u8 = 4;
+
+const HOME: u8 = 5;
+
+const EXTERN_NUMBER: u8 = 1;
+
+// Word w of record k, where a record has `width` words.
+fn word(table: &[u8], width: u8, k: usize, w: u8) -> u64
+    requires { ⌜ WORD * (width * k + w) < 2 ^ 64 ⌝ }
+    ensures { λ x. ⌜ x ≡ wordOf width (now (table .entry)) k w ⌝ }
+{
+    le::u64_at(table, words::WORD * (width as usize * k + w as usize))
+}
+
+// The name of record k of n, as that part of the file; none at n or above.
+fn name_of<'a>(file: &'a [u8], table: &[u8], width: u8, n: usize, k: usize) -> &'a [u8]
+    requires { ⌜ (NAME-LENGTH < width) × (WORD * (width * n) ≤ 2 ^ 64) ⌝ }
+    ensures { λ r. ⌜ now r ≡ nameOf width n (now (file .entry)) (now (table .entry)) k ⌝ }
+{
+    if k < n {
+        let at = word(table, width, k, NAME_START);
+        let length = word(table, width, k, NAME_LENGTH);
+        le::part(file, at as usize, length as usize)
+    } else {
+        le::part(file, 0, 0)
+    }
+}
+
+fn has_name(file: &[u8], table: &[u8], name: &[u8], width: u8, n: usize, k: usize) -> bool
+    requires { ⌜ (NAME-LENGTH < width) × (WORD * (width * n) ≤ 2 ^ 64) ⌝ }
+    ensures { λ r. ⌜ r ≡ hasName width n (now (file .entry)) (now (table .entry)) (now (name .entry)) k ⌝ }
+{
+    names::same(name_of(file, table, width, n, k), name)
+}
+
+// The number of the last of n records with that name.
+fn last_named(file: &[u8], table: &[u8], name: &[u8], width: u8, n: usize) -> Number
+    requires { ⌜ (NAME-LENGTH < width) × (WORD * (width * n) ≤ 2 ^ 64) ⌝ }
+    ensures { λ r. ⌜ r ≡ lastNamed width n (now (file .entry)) (now (table .entry)) (now (name .entry)) ⌝ }
+{
+    let mut left = n;
+    while 0 < left {
+        let k = left - 1;
+        if has_name(file, table, name, width, n, k) {
+            return Number::Value(k as u64);
+        }
+        left = k;
+    }
+    Number::Refusal(NO_ENTRY)
+}
 
 // How many records the table of symbols has.
 pub fn symbol_count(table: &[u8]) -> usize
     ensures { λ r. ⌜ r ≡ symbolCount (now (table .entry)) ⌝ }
 {
-    table.len() / SYMBOL_BYTES
-}
-
-fn symbol_word(table: &[u8], k: usize, w: u8) -> u64
-    requires { ⌜ (48 * k + 48 ≤ 2 ^ 64) × (w < 6) ⌝ }
-    ensures { λ x. ⌜ x ≡ wordOf 6 (now (table .entry)) k w ⌝ }
-{
-    le::u64_at(table, SYMBOL_BYTES * k + 8 * (w as usize))
+    table.len() / limits::SYMBOL_BYTES
 }
 
 fn symbol_record(table: &[u8], k: usize) -> Symbol
-    requires { ⌜ 48 * k + 48 ≤ 2 ^ 64 ⌝ }
+    requires { ⌜ SYMBOL-BYTES * k + SYMBOL-BYTES ≤ 2 ^ 64 ⌝ }
     ensures { λ r. ⌜ r ≡ symbolRecord (now (table .entry)) k ⌝ }
 {
     Symbol {
-        address: VA(symbol_word(table, k, 0)),
-        kind: symbol_word(table, k, 1),
-        name_start: symbol_word(table, k, 2),
-        name_length: symbol_word(table, k, 3),
-        number: symbol_word(table, k, 4),
-        home: symbol_word(table, k, 5),
+        address: VA(word(table, SYMBOL_WORDS, k, ADDRESS)),
+        kind: word(table, SYMBOL_WORDS, k, KIND),
+        name_start: word(table, SYMBOL_WORDS, k, NAME_START),
+        name_length: word(table, SYMBOL_WORDS, k, NAME_LENGTH),
+        number: word(table, SYMBOL_WORDS, k, NUMBER),
+        home: word(table, SYMBOL_WORDS, k, HOME),
     }
 }
 
@@ -84,7 +144,7 @@ fn symbol_record(table: &[u8], k: usize) -> Symbol
 pub fn symbol_entry(table: &[u8], k: usize) -> SymbolAnswer
     ensures { λ r. ⌜ r ≡ symbolEntry (now (table .entry)) k ⌝ }
 {
-    if k < table.len() / SYMBOL_BYTES {
+    if k < table.len() / limits::SYMBOL_BYTES {
         SymbolAnswer::Entry(symbol_record(table, k))
     } else {
         SymbolAnswer::Refused(NO_ENTRY)
@@ -93,50 +153,42 @@ pub fn symbol_entry(table: &[u8], k: usize) -> SymbolAnswer
 
 // The name of record k, as that part of the file; none at the count or above.
 pub fn symbol_name_of<'a>(file: &'a [u8], table: &[u8], k: usize) -> &'a [u8]
-    ensures { λ r. ⌜ now r ≡ nameOf 6 (symbolCount (now (table .entry))) (now (file .entry)) (now (table .entry)) k ⌝ }
+    ensures { λ r. ⌜ now r ≡ nameOf SYMBOL-WORDS (symbolCount (now (table .entry))) (now (file .entry)) (now (table .entry)) k ⌝ }
 {
-    if k < table.len() / SYMBOL_BYTES {
-        let at = symbol_word(table, k, 2);
-        let length = symbol_word(table, k, 3);
-        le::part(file, at as usize, length as usize)
-    } else {
-        le::part(file, 0, 0)
-    }
-}
-
-fn symbol_has_name(file: &[u8], table: &[u8], name: &[u8], k: usize) -> bool
-    ensures { λ r. ⌜ r ≡ hasName 6 (symbolCount (now (table .entry))) (now (file .entry)) (now (table .entry)) (now (name .entry)) k ⌝ }
-{
-    names::same(symbol_name_of(file, table, k), name)
+    name_of(
+        file,
+        table,
+        SYMBOL_WORDS,
+        table.len() / limits::SYMBOL_BYTES,
+        k,
+    )
 }
 
 // The number of the last record with that name.
 pub fn symbol_named(file: &[u8], table: &[u8], name: &[u8]) -> Number
     ensures { λ r. ⌜ r ≡ symbolNamed (now (file .entry)) (now (table .entry)) (now (name .entry)) ⌝ }
 {
-    let mut n = table.len() / SYMBOL_BYTES;
-    while 0 < n {
-        let k = n - 1;
-        if symbol_has_name(file, table, name, k) {
-            return Number::Value(k as u64);
-        }
-        n = k;
-    }
-    Number::Refusal(NO_ENTRY)
+    last_named(
+        file,
+        table,
+        name,
+        SYMBOL_WORDS,
+        table.len() / limits::SYMBOL_BYTES,
+    )
 }
 
 fn lies_at(table: &[u8], va: VA, k: usize) -> bool
-    requires { ⌜ 48 * k + 48 ≤ 2 ^ 64 ⌝ }
+    requires { ⌜ SYMBOL-BYTES * k + SYMBOL-BYTES ≤ 2 ^ 64 ⌝ }
     ensures { λ r. ⌜ r ≡ liesAt (now (table .entry)) va k ⌝ }
 {
-    symbol_word(table, k, 0) == va.0
+    word(table, SYMBOL_WORDS, k, ADDRESS) == va.0
 }
 
 // The number of the first record from `from` on at that address: with one more than the answer it gives the next.
 pub fn symbol_at(table: &[u8], va: VA, from: usize) -> Number
     ensures { λ r. ⌜ r ≡ symbolAt (now (table .entry)) va from ⌝ }
 {
-    let n = table.len() / SYMBOL_BYTES;
+    let n = table.len() / limits::SYMBOL_BYTES;
     let mut k = from;
     while k < n {
         if lies_at(table, va, k) {
@@ -151,25 +203,18 @@ pub fn symbol_at(table: &[u8], va: VA, from: usize) -> Number
 pub fn extern_count(table: &[u8]) -> usize
     ensures { λ r. ⌜ r ≡ externCount (now (table .entry)) ⌝ }
 {
-    table.len() / EXTERN_BYTES
-}
-
-fn extern_word(table: &[u8], k: usize, w: u8) -> u64
-    requires { ⌜ (32 * k + 32 ≤ 2 ^ 64) × (w < 4) ⌝ }
-    ensures { λ x. ⌜ x ≡ wordOf 4 (now (table .entry)) k w ⌝ }
-{
-    le::u64_at(table, EXTERN_BYTES * k + 8 * (w as usize))
+    table.len() / limits::EXTERN_BYTES
 }
 
 fn extern_record(table: &[u8], k: usize) -> Extern
-    requires { ⌜ 32 * k + 32 ≤ 2 ^ 64 ⌝ }
+    requires { ⌜ EXTERN-BYTES * k + EXTERN-BYTES ≤ 2 ^ 64 ⌝ }
     ensures { λ r. ⌜ r ≡ externRecord (now (table .entry)) k ⌝ }
 {
     Extern {
-        address: VA(extern_word(table, k, 0)),
-        number: extern_word(table, k, 1),
-        name_start: extern_word(table, k, 2),
-        name_length: extern_word(table, k, 3),
+        address: VA(word(table, EXTERN_WORDS, k, ADDRESS)),
+        number: word(table, EXTERN_WORDS, k, EXTERN_NUMBER),
+        name_start: word(table, EXTERN_WORDS, k, NAME_START),
+        name_length: word(table, EXTERN_WORDS, k, NAME_LENGTH),
     }
 }
 
@@ -177,7 +222,7 @@ fn extern_record(table: &[u8], k: usize) -> Extern
 pub fn extern_entry(table: &[u8], k: usize) -> ExternAnswer
     ensures { λ r. ⌜ r ≡ externEntry (now (table .entry)) k ⌝ }
 {
-    if k < table.len() / EXTERN_BYTES {
+    if k < table.len() / limits::EXTERN_BYTES {
         ExternAnswer::Entry(extern_record(table, k))
     } else {
         ExternAnswer::Refused(NO_ENTRY)
@@ -186,34 +231,26 @@ pub fn extern_entry(table: &[u8], k: usize) -> ExternAnswer
 
 // The name of record k, as that part of the file; none at the count or above.
 pub fn extern_name_of<'a>(file: &'a [u8], table: &[u8], k: usize) -> &'a [u8]
-    ensures { λ r. ⌜ now r ≡ nameOf 4 (externCount (now (table .entry))) (now (file .entry)) (now (table .entry)) k ⌝ }
+    ensures { λ r. ⌜ now r ≡ nameOf EXTERN-WORDS (externCount (now (table .entry))) (now (file .entry)) (now (table .entry)) k ⌝ }
 {
-    if k < table.len() / EXTERN_BYTES {
-        let at = extern_word(table, k, 2);
-        let length = extern_word(table, k, 3);
-        le::part(file, at as usize, length as usize)
-    } else {
-        le::part(file, 0, 0)
-    }
-}
-
-fn extern_has_name(file: &[u8], table: &[u8], name: &[u8], k: usize) -> bool
-    ensures { λ r. ⌜ r ≡ hasName 4 (externCount (now (table .entry))) (now (file .entry)) (now (table .entry)) (now (name .entry)) k ⌝ }
-{
-    names::same(extern_name_of(file, table, k), name)
+    name_of(
+        file,
+        table,
+        EXTERN_WORDS,
+        table.len() / limits::EXTERN_BYTES,
+        k,
+    )
 }
 
 // The number of the last record with that name.
 pub fn extern_named(file: &[u8], table: &[u8], name: &[u8]) -> Number
     ensures { λ r. ⌜ r ≡ externNamed (now (file .entry)) (now (table .entry)) (now (name .entry)) ⌝ }
 {
-    let mut n = table.len() / EXTERN_BYTES;
-    while 0 < n {
-        let k = n - 1;
-        if extern_has_name(file, table, name, k) {
-            return Number::Value(k as u64);
-        }
-        n = k;
-    }
-    Number::Refusal(NO_ENTRY)
+    last_named(
+        file,
+        table,
+        name,
+        EXTERN_WORDS,
+        table.len() / limits::EXTERN_BYTES,
+    )
 }

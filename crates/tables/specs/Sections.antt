@@ -9,14 +9,12 @@ use Rattle.names.specs.Name.{sectionName}
 use Rattle.words.specs.Words.{wordBytes, nameStart, nameLength}
 use Rattle.words.specs.Picked.{picked}
 
--- a record is eight words: start, end, file start, file end, permissions, name start, name length, section number from 1
-abbrev pub SECTION-BYTES : ℕ
-SECTION-BYTES = 64
-
+-- UNDEF can be read
 abbrev pub READ : ℕ
 READ = 1
 
--- `starts` keeps each section's start
+-- a record is eight words: start, end, file start, file end, permissions, name start, name length, section number from 1. `starts` keeps each
+-- section's start
 unfoldable pub sectionWords : List ℕ → Header → ℕ → List ℕ → ℕ → List ℕ
 sectionWords f h base starts i =
     (base + getD starts i 0)
@@ -33,5 +31,6 @@ sectionWords f h base starts i =
 abbrev pub undefWords : ℕ → ℕ → List ℕ
 undefWords base undef = (base + undef) ∷ (base + undef + PAGE-SIZE) ∷ 0 ∷ 0 ∷ READ ∷ 0 ∷ 0 ∷ 0 ∷ []
 
+-- the table
 abbrev pub sectionTable : List ℕ → Header → ℕ → List ℕ → ℕ → List ℕ
 sectionTable f h base starts undef = picked (loaded f h) (sectionWords f h base starts) (h .sections) ++ wordBytes (undefWords base undef)

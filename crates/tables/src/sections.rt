@@ -1,18 +1,24 @@
 // The section table.
 use arch::PAGE_SIZE;
+use arch::RVA;
+use arch::VA;
 use object::Header;
 ghost use mathlib.Core.Path.{_≡_};
 ghost use Prim.Native.Nat.{_*_};
+ghost use Rattle.limits.specs.Limits.{SECTION-BYTES};
 ghost use Rattle.le.specs.Le.{splice};
 ghost use Rattle.words.specs.Words.{wordBytes};
 ghost use Rattle.tables.specs.Sections.{sectionWords, undefWords, sectionTable};
 
+// UNDEF can be read.
+const READ: u64 = 1;
+
 // Section i's record, at place n of the table.
-fn put_section(f: &[u8], h: Header, base: u32, starts: &[u32], i: u32, n: u32, b: &mut [u8])
-    ensures { λ _. ⌜ now (b .exit) ≡ splice (now (b .entry)) (64 * n) (wordBytes (sectionWords (now (f .entry)) h base (now (starts .entry)) i)) ⌝ }
+fn put_section(f: &[u8], h: Header, base: VA, starts: &[u32], i: u32, n: u32, b: &mut [u8])
+    ensures { λ _. ⌜ now (b .exit) ≡ splice (now (b .entry)) (SECTION-BYTES * n) (wordBytes (sectionWords (now (f .entry)) h (base .0) (now (starts .entry)) i)) ⌝ }
 {
-    let start = base as u64 + le::word_at(starts, i as usize) as u64;
-    let end = start + object::range_length(f, h, i);
+    let start = std::num::wrapping_add_u64(base.0, le::word_at(starts, i as usize) as u64);
+    let end = std::num::wrapping_add_u64(start, object::range_length(f, h, i));
     let name = names::section_name(f, h, i);
     let ws = [
         start,
@@ -24,20 +30,21 @@ fn put_section(f: &[u8], h: Header, base: u32, starts: &[u32], i: u32, n: u32, b
         words::name_length(name),
         i as u64 + 1,
     ];
-    words::put(b, 64 * (n as usize), &ws);
+    words::put(b, limits::SECTION_BYTES * (n as usize), &ws);
 }
 
-fn put_undef(base: u32, undef: u32, n: u32, b: &mut [u8])
-    ensures { λ _. ⌜ now (b .exit) ≡ splice (now (b .entry)) (64 * n) (wordBytes (undefWords base undef)) ⌝ }
+fn put_undef(base: VA, undef: RVA, n: u32, b: &mut [u8])
+    ensures { λ _. ⌜ now (b .exit) ≡ splice (now (b .entry)) (SECTION-BYTES * n) (wordBytes (undefWords (base .0) (undef .0))) ⌝ }
 {
-    let start = base as u64 + undef as u64;
-    let ws = [start, start + PAGE_SIZE, 0, 0, 1, 0, 0, 0];
-    words::put(b, 64 * (n as usize), &ws);
+    let start = std::num::wrapping_add_u64(base.0, undef.0);
+    let end = std::num::wrapping_add_u64(start, PAGE_SIZE);
+    let ws = [start, end, 0, 0, READ, 0, 0, 0];
+    words::put(b, limits::SECTION_BYTES * (n as usize), &ws);
 }
 
 // A record for each loaded section, and UNDEF's.
-pub fn write_sections(f: &[u8], h: Header, base: u32, starts: &[u32], undef: u32, b: &mut [u8])
-    ensures { λ _. ⌜ now (b .exit) ≡ splice (now (b .entry)) 0 (sectionTable (now (f .entry)) h base (now (starts .entry)) undef) ⌝ }
+pub fn write_sections(f: &[u8], h: Header, base: VA, starts: &[u32], undef: RVA, b: &mut [u8])
+    ensures { λ _. ⌜ now (b .exit) ≡ splice (now (b .entry)) 0 (sectionTable (now (f .entry)) h (base .0) (now (starts .entry)) (undef .0)) ⌝ }
 {
     let m = h.sections as u32;
     let mut n: u32 = 0;

@@ -1,9 +1,12 @@
 -- What a relocation's symbol comes to, as an offset from the base (01, "Layout, slots and fixups" and refusal 10).
 use mathlib.Core.List.{List}
-use Prim.Native.Nat.{ℕ, _+_, _-_, _*_}
-use lib.Dec.{eqb, ltb}
-use lib.ListN.{getD}
+use Prim.Native.Nat.{ℕ, _+_, _*_}
+use lib.Dec.{ltb}
 use Rattle.util.specs.Pick.{pick}
+use Rattle.limits.specs.Limits.{MAX-EXTERNS, SLOT-SIZE}
+use Rattle.arch.specs.declared.Offset.{Offset}
+use Rattle.arch.specs.declared.Offset.the-variants.{At, None}
+use Rattle.arch.specs.Address.{rva}
 use Rattle.object.specs.declared.Header.{Header}
 use Rattle.kinds.specs.declared.SymbolKind.{SymbolKind}
 use Rattle.kinds.specs.declared.SymbolKind.the-variants.{Unknown, Text, Data, Section, File, Label}
@@ -11,11 +14,9 @@ use Rattle.kinds.specs.declared.Place.{Place}
 use Rattle.kinds.specs.declared.Place.the-variants.{In, Undefined, Common, Absolute, Nowhere, Other}
 use Rattle.object.specs.Symbol.{kind, symbolPlace}
 use Rattle.names.specs.Name.{symbolText}
-use Rattle.layout.specs.Layout.{SLOT-SIZE}
-use Rattle.layout.specs.Home.{namedRecord, homeCell}
-use Rattle.checks.specs.Limits.{MAX-EXTERNS}
+use Rattle.homes.specs.Home.{namedRecord, homeStart, byNumber}
 use Rattle.externs.specs.declared.Found.{Found}
-use Rattle.externs.specs.declared.Found.the-variants.{At, Nothing}
+use Rattle.externs.specs.declared.Found.the-variants.{Index, Nothing}
 use Rattle.targets.specs.declared.Skip.{Skip}
 use Rattle.targets.specs.declared.Skip.the-variants.{NoSymbol, NoHome, NoSlot, NoType}
 use Rattle.targets.specs.declared.Target.{Target}
@@ -29,41 +30,43 @@ skipNumber NoHome = 2
 skipNumber NoSlot = 3
 skipNumber NoType = 4
 
--- a symbol in section n, from 1: that section's home start. `homes` keeps the start and one, or 0 for none
-unfoldable pub homeTarget : List ℕ → ℕ → Target
-homeTarget homes n = pick (eqb (getD homes (n - 1) 0) 0) (Missing NoHome) (Home (getD homes (n - 1) 0 - 1))
+-- a symbol in a section: where that section's home starts
+unfoldable pub homeTarget : Offset → Target
+homeTarget (At o) = Home o
+homeTarget None = Missing NoHome
 
 -- the slot of a name: slot e is 4 bytes at UNDEF + 4 e. UNDEF's page has room for 1,024, and refusal 9 lets no more names by
 unfoldable pub slotTarget : ℕ → Found → Target
-slotTarget undef (At e) = pick (ltb e MAX-EXTERNS) (Slot (undef + SLOT-SIZE * e)) (Missing NoSlot)
+slotTarget undef (Index e) = pick (ltb e MAX-EXTERNS) (Slot (rva (undef + SLOT-SIZE * e))) (Missing NoSlot)
 slotTarget undef Nothing = Missing NoSlot
 
--- a section by its name: the first table record of that name, else the slot
-unfoldable pub namedTarget : ℕ → Target → Target
-namedTarget cell other = pick (eqb cell 0) other (Named (cell - 1))
+-- a section by its name: where the first table record of that name starts, else the slot
+unfoldable pub namedTarget : Offset → Target → Target
+namedTarget (At o) other = Named o
+namedTarget None other = other
 
 -- a label outside a section is refused
-unfoldable pub labelTarget : List ℕ → Place → Target
-labelTarget homes (In n) = homeTarget homes n
-labelTarget homes Undefined = Refused
-labelTarget homes Common = Refused
-labelTarget homes Other = Refused
-labelTarget homes Absolute = Refused
-labelTarget homes Nowhere = Refused
+unfoldable pub labelTarget : (ℕ → Offset) → Place → Target
+labelTarget home (In n) = homeTarget (byNumber home None n)
+labelTarget home Undefined = Refused
+labelTarget home Common = Refused
+labelTarget home Other = Refused
+labelTarget home Absolute = Refused
+labelTarget home Nowhere = Refused
 
--- `slot` finds a name's slot
+-- `home` says where a section's home starts, `slot` finds a name's slot
 module _ (f : List ℕ) (h : Header) (undef : ℕ) (slot : List ℕ → Found) (j : ℕ) where
   abbrev pub slotFor : Target
   slotFor = slotTarget undef (slot (symbolText f h j))
 
   abbrev pub namedFor : Target
-  namedFor = namedTarget (homeCell f h (namedRecord f h (symbolText f h j))) slotFor
+  namedFor = namedTarget (homeStart f h (namedRecord f h (symbolText f h j))) slotFor
 
-module _ (f : List ℕ) (h : Header) (homes : List ℕ) (undef : ℕ) (slot : List ℕ → Found) (j : ℕ) where
+module _ (f : List ℕ) (h : Header) (home : ℕ → Offset) (undef : ℕ) (slot : List ℕ → Found) (j : ℕ) where
   -- data and text: in a section, its home; undefined, common or of unknown place, the slot; absolute is refused. None
   -- is a place of class 103 alone, which is a file's
   unfoldable pub dataTarget : Place → Target
-  dataTarget (In n) = homeTarget homes n
+  dataTarget (In n) = homeTarget (byNumber home None n)
   dataTarget Undefined = slotFor f h undef slot j
   dataTarget Common = slotFor f h undef slot j
   dataTarget Other = slotFor f h undef slot j
@@ -72,7 +75,7 @@ module _ (f : List ℕ) (h : Header) (homes : List ℕ) (undef : ℕ) (slot : Li
 
   -- section kind: in a section, its home; common or undefined, by name; anything else is refused
   unfoldable pub sectionTarget : Place → Target
-  sectionTarget (In n) = homeTarget homes n
+  sectionTarget (In n) = homeTarget (byNumber home None n)
   sectionTarget Undefined = namedFor f h undef slot j
   sectionTarget Common = namedFor f h undef slot j
   sectionTarget Other = Refused
@@ -84,7 +87,7 @@ module _ (f : List ℕ) (h : Header) (homes : List ℕ) (undef : ℕ) (slot : Li
   targetBy Data p = dataTarget p
   targetBy Text p = dataTarget p
   targetBy Section p = sectionTarget p
-  targetBy Label p = labelTarget homes p
+  targetBy Label p = labelTarget home p
   targetBy Unknown p = slotFor f h undef slot j
   targetBy File p = Refused
 

@@ -12,9 +12,9 @@ pub(crate) fn question(line: &[u8]) -> u8 {
         b"is_loaded is_uninitialized is_extended \
           type_of fill_primaries classes \
           machine sections string_table file_end range_length relocation_start relocation_type \
-          symbol_class symbol_kind symbol_place auxiliaries owed_after \
+          symbol_class symbol_kind symbol_place auxiliaries auxiliaries_past \
           section_table symbol_table symbols string_length \
-          virtual_address raw_size raw_pointer relocation_pointer permissions file_start \
+          address_field raw_size raw_pointer relocation_pointer permissions file_start \
           relocation_records relocation_count relocation_address relocation_symbol \
           symbol_value listed_value ",
     )
@@ -55,7 +55,7 @@ fn number(k: u8, f: &[u8], h: Header, i: u32, r: u32) -> u64 {
         14 => kinds::kind_number(object::symbol_kind(f, h, i)),
         15 => symbols::place_number(object::symbol_place(f, h, i)),
         16 => object::auxiliaries(f, h, i) as u64,
-        _ => object::owed_after(f, h) as u64,
+        _ => object::auxiliaries_past(f, h) as u64,
     }
 }
 
@@ -66,7 +66,7 @@ fn word(k: u8, f: &[u8], h: Header, i: u32, r: u32) -> u32 {
         19 => h.symbol_table,
         20 => h.symbols,
         21 => object::string_length(f, h),
-        22 => object::virtual_address(f, h, i),
+        22 => object::address_field(f, h, i),
         23 => object::raw_size(f, h, i),
         24 => object::raw_pointer(f, h, i),
         25 => object::relocation_pointer(f, h, i),

@@ -21,8 +21,8 @@ use section::Section;
 // A record with no range, no bytes in the file and an empty name.
 fn none() -> Section {
     Section {
-        start: 0,
-        end: 0,
+        start: VA(0),
+        end: VA(0),
         file_start: 0,
         file_end: 0,
         permissions: 0,
@@ -45,10 +45,12 @@ fn filled(table: &[u8], unused: [Section; 17]) -> [Section; 17]
     t
 }
 
+// The records of the table, and behind them blank ones.
 pub fn sections(table: &[u8]) -> [Section; 17] {
     filled(table, blank())
 }
 
+// The questions, each on the table lent for it.
 pub fn file_offset(t: [Section; 17], va: VA) -> Number
     ensures { λ r. ⌜ r ≡ fileOffset t va ⌝ }
 {

@@ -7,45 +7,30 @@ mod lists;
 mod reading;
 mod say;
 
+use arch::Arch;
 use arch::VA;
+use load::Load;
 use survey::Counts;
-use survey::Survey;
 
 const BASE: u64 = 0x20000000;
 
-// The longest object has room.
+// More than the input has.
 fn main() {
-    let mut file = [0u8; 16385];
-    cases(&mut file);
+    let mut text = [0u8; 131072];
+    let n = io::read_full(0, &mut text);
+    cases(le::part(&text, 0, n));
 }
 
-// Where the input ends is not known, so the loop has a number of cases that no run uses up.
-fn cases(file: &mut [u8]) {
+fn cases(text: &[u8]) {
     let mut n: u64 = 0;
-    while n < u64::MAX && case(n, file) {
+    let mut at: usize = 0;
+    while at < text.len() {
+        let length = le::u32_at(text, at) as usize;
+        lines::part(b"case ", n);
+        say::end();
+        loaded(le::part(text, at + 4, length));
+        at = at + 4 + length;
         n += 1;
-    }
-}
-
-// Whether there was an object, whole.
-fn case(n: u64, file: &mut [u8]) -> bool {
-    let mut field = [0u8; 4];
-    if io::read_full(0, &mut field) < 4 {
-        return false;
-    }
-    lines::part(b"case ", n);
-    lines::line(b"");
-    object(le::u32_at(&field, 0) as usize, file)
-}
-
-// No object here is longer than the buffer.
-fn object(length: usize, file: &mut [u8]) -> bool {
-    if length <= file.len() {
-        let got = io::read_full(0, &mut file[..length]);
-        loaded(le::part(file, 0, length));
-        got == length
-    } else {
-        false
     }
 }
 
@@ -70,28 +55,45 @@ fn loaded(f: &[u8]) {
         &mut skips,
     );
     match s {
-        Survey::Refused(n) => say::refused(n),
-        Survey::Accepted(c) => {
+        Load::Refused(n) => refused(n),
+        Load::Loaded(c) => {
             asked(f, c, &sections, &symbols, &externs);
             read(f, c, &image, &marks, &sections);
         }
     }
 }
 
+fn refused(n: u64) {
+    lines::part(b"refused ", n);
+    say::end();
+}
+
 // The counted parts of the tables.
 fn asked(f: &[u8], c: Counts, sections: &[u8], symbols: &[u8], externs: &[u8]) {
     let n = lines::few(c.sections);
-    boundary::all(f, le::part(sections, 0, n as usize * 64), n);
+    boundary::all(
+        f,
+        le::part(sections, 0, n as usize * limits::SECTION_BYTES),
+        n,
+    );
     let k = lines::few(c.symbols);
-    lists::symbols(f, le::part(symbols, 0, k as usize * 48), k);
+    lists::symbols(
+        f,
+        le::part(symbols, 0, k as usize * limits::SYMBOL_BYTES),
+        k,
+    );
     let e = lines::few(c.externs);
-    lists::externs(f, le::part(externs, 0, e as usize * 32), e);
+    lists::externs(
+        f,
+        le::part(externs, 0, e as usize * limits::EXTERN_BYTES),
+        e,
+    );
 }
 
 // The pointers, as wide as the object's machine has them.
 fn read(f: &[u8], c: Counts, image: &[u8], marks: &[u8], sections: &[u8]) {
-    let arch = survey::machine_of(object::read_header(f));
+    let arch = Arch::by_machine(object::read_header(f).machine);
     let n = lines::few(c.sections);
-    let table = le::part(sections, 0, n as usize * 64);
+    let table = le::part(sections, 0, n as usize * limits::SECTION_BYTES);
     reading::all(image, marks, arch, table, n, lines::few(c.pages));
 }

@@ -15,8 +15,8 @@ pub fn all(image: &[u8], marks: &[u8], arch: Arch, table: &[u8], n: u16, pages: 
             image,
             marks,
             arch,
-            boundary::word(table, i, 0),
-            boundary::word(table, i, 1),
+            boundary::word(table, i, boundary::START),
+            boundary::word(table, i, boundary::END),
         );
         i += 1;
     }
@@ -39,5 +39,5 @@ fn at(image: &[u8], marks: &[u8], arch: Arch, a: u64) {
     say::offset(pointers::read_rva_at_rva(image, marks, arch, RVA(o)));
     say::address(pointers::read_va_at_va(image, marks, VA(BASE), arch, VA(a)));
     say::offset(pointers::read_rva_at_va(image, marks, VA(BASE), arch, VA(a)));
-    lines::line(b"");
+    say::end();
 }

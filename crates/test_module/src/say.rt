@@ -1,32 +1,50 @@
-// Answers on standard output.
+// Answers on standard output. A word that many lines have is written in one place, since each place that lends one is proved.
 use answers::AddressAnswer;
 use answers::OffsetAnswer;
 use refusal::Number;
 
-pub fn refused(n: u64) {
-    lines::part(b"refused ", n);
+// The end of a line.
+pub fn end() {
     lines::line(b"");
+}
+
+// A part of a line: a number, an address or an offset, a refusal.
+fn value(n: u64) {
+    lines::part(b" ", n);
+}
+
+pub fn place(n: u64) {
+    lines::address(b" ", n);
+}
+
+pub fn refused(n: u64) {
+    lines::part(b" refused ", n);
+}
+
+pub fn name(s: &[u8]) {
+    lines::text(b" ");
+    lines::text(s);
 }
 
 // A number, or `refused` and its number.
 pub fn number(n: Number) {
     match n {
-        Number::Value(k) => lines::part(b" ", k),
-        Number::Refusal(k) => lines::part(b" refused ", k),
+        Number::Value(k) => value(k),
+        Number::Refusal(k) => refused(k),
     }
 }
 
 pub fn address(a: AddressAnswer) {
     match a {
-        AddressAnswer::Found(va) => lines::address(b" ", va.0),
-        AddressAnswer::Refused(k) => lines::part(b" refused ", k),
+        AddressAnswer::Found(va) => place(va.0),
+        AddressAnswer::Refused(k) => refused(k),
     }
 }
 
 pub fn offset(a: OffsetAnswer) {
     match a {
-        OffsetAnswer::Found(rva) => lines::address(b" ", rva.0),
-        OffsetAnswer::Refused(k) => lines::part(b" refused ", k),
+        OffsetAnswer::Found(rva) => place(rva.0),
+        OffsetAnswer::Refused(k) => refused(k),
     }
 }
 

@@ -83,7 +83,11 @@ fn one(
 
 // `patch NUMBER POSITION`
 fn patch(line: &[u8], base: u64, c: Counts, image: &mut [u8], marks: &[u8], fixups: &[u8]) {
-    let list = le::part(fixups, 0, lines::few(c.fixups) as usize * 24);
+    let list = le::part(
+        fixups,
+        0,
+        lines::few(c.fixups) as usize * limits::FIXUP_BYTES,
+    );
     let number = cases::number_at(line, 1);
     let position = cases::number_at(line, 2);
     let answer = patch::patch(VA(base), image, marks, list, number, position);

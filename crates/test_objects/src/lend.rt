@@ -2,8 +2,8 @@
 use crate::act;
 use crate::say;
 use arch::VA;
+use load::Load;
 use survey::Counts;
-use survey::Survey;
 
 // What stands in every byte before.
 const PATTERN: u8 = 0xA5;
@@ -45,11 +45,11 @@ pub(crate) fn at(line: &[u8], base: u64, f: &[u8], text: &[u8], from: usize) {
 }
 
 // What was counted, written behind the line; nothing of an object that is refused.
-fn counts(line: &[u8], s: Survey) -> Counts {
-    say::survey(line, s);
+fn counts(line: &[u8], s: Load) -> Counts {
+    say::load(line, s);
     match s {
-        Survey::Accepted(c) => c,
-        Survey::Refused(_) => Counts {
+        Load::Loaded(c) => c,
+        Load::Refused(_) => Counts {
             pages: 0,
             sections: 0,
             symbols: 0,

@@ -1,14 +1,25 @@
 // What stands behind a line.
+use load::Load;
 use patch::Patch;
 use survey::Counts;
 use survey::Survey;
 
-// A line with survey's answer, or load's.
+// A line with survey's answer.
 pub(crate) fn survey(line: &[u8], s: Survey) {
     cases::text(line);
     match s {
         Survey::Accepted(c) => counts(c),
         Survey::Refused(n) => cases::refused(n),
+    }
+    cases::end();
+}
+
+// A line with load's answer.
+pub(crate) fn load(line: &[u8], s: Load) {
+    cases::text(line);
+    match s {
+        Load::Loaded(c) => counts(c),
+        Load::Refused(n) => cases::refused(n),
     }
     cases::end();
 }

@@ -72,7 +72,7 @@ fn read(question: u8, line: &[u8], image: &[u8], marks: &[u8]) {
         ),
         8 => cases::number(pagemap::get(image, marks, RVA(first))),
         9 => cases::yes(pagemap::probe(image, marks, RVA(first))),
-        10 => cases::decimal(pagemap::page_count(marks)),
+        10 => cases::decimal(marks::page_count(marks)),
         11 => cases::yes(pagemap::storage_ok(first, second)),
         _ => {}
     }

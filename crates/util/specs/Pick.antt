@@ -49,16 +49,16 @@ and-right false b e = cc
 pub and-both : (a b : Bool) → a ≡ true → b ≡ true → a && b ≡ true
 and-both a b e d = rw (e, d)
 
--- a chain of checks that says 0 passed the check at its head, and the rest of it says 0
-pub passed : (t : Bool) (a b : ℕ) → pick t a b ≡ 0 → (b ≡ 0 → ⊥) → t ≡ true
+-- a chain of checks that says 0 head-passes the check at its head, and the rest of it says 0
+pub head-passes : (t : Bool) (a b : ℕ) → pick t a b ≡ 0 → (b ≡ 0 → ⊥) → t ≡ true
 unfolding pick
-passed true a b e n = refl
-passed false a b e n = absurd (n e)
+head-passes true a b e n = refl
+head-passes false a b e n = absurd (n e)
 
-pub passed-on : (t : Bool) (a b : ℕ) → pick t a b ≡ 0 → (b ≡ 0 → ⊥) → a ≡ 0
+pub rest-passes : (t : Bool) (a b : ℕ) → pick t a b ≡ 0 → (b ≡ 0 → ⊥) → a ≡ 0
 unfolding pick
-passed-on true a b e n = e
-passed-on false a b e n = absurd (n e)
+rest-passes true a b e n = e
+rest-passes false a b e n = absurd (n e)
 
 -- two orders are one test where each gives the other
 pub leb-same : (a b c d : ℕ) → (a ≤ b → c ≤ d) → (c ≤ d → a ≤ b) → leb a b ≡ leb c d

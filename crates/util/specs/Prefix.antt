@@ -24,10 +24,12 @@ unfoldable pub sumTo : (ℕ → ℕ) → ℕ → ℕ
 sumTo f zero = 0
 sumTo f (suc n) = sumTo f n + f n
 
+-- how many pass
 unfoldable pub countTo : (ℕ → Bool) → ℕ → ℕ
 countTo p zero = 0
 countTo p (suc n) = countTo p n + pick (p n) 1 0
 
+-- the list over them
 unfoldable pub listTo : {A : Type 0} → (ℕ → A) → ℕ → List A
 listTo g zero = []
 listTo g (suc n) = listTo g n ++ (g n ∷ [])

@@ -1,5 +1,6 @@
-// Rounding up, from util.rs. The crate also holds what every layer's definitions and proofs share: a choice by a test, and recursion over the numbers below n.
+// Rounding up, from util.rs, and what every layer shares: two tests as one, a choice by a test, recursion over the numbers below n.
 ghost use mathlib.Core.Path.{_≡_};
+ghost use mathlib.Core.Bool.{_&&_, _||_};
 ghost use Prim.Native.Nat.{_+_, _%_, _^_, max};
 ghost use lib.Dec.{leb};
 ghost use Rattle.util.specs.Align.{roundUp};
@@ -33,4 +34,18 @@ pub fn most(a: u64, b: u64) -> u64
     ensures { λ r. ⌜ r ≡ max a b ⌝ }
 {
     if a < b { b } else { a }
+}
+
+// Both hold.
+pub fn both(a: bool, b: bool) -> bool
+    ensures { λ r. ⌜ r ≡ (a && b) ⌝ }
+{
+    if a { b } else { false }
+}
+
+// One of them holds.
+pub fn either(a: bool, b: bool) -> bool
+    ensures { λ r. ⌜ r ≡ (a || b) ⌝ }
+{
+    if a { true } else { b }
 }

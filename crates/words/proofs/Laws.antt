@@ -9,37 +9,37 @@ use lib.ListN.{getD, length, take, drop, take-append-drop}
 use lib.Seq.{take-suc, take-all, length-take-le}
 use Rattle.util.specs.Pick.{le-or-lt}
 use Rattle.le.specs.Le.{le, splice, splice-next, splice-past, length-splice}
-use Rattle.words.specs.Words.{wordBytes, words-append, length-words}
+use Rattle.words.specs.Words.{WORD, wordBytes, words-append, length-words}
 
 module _ (ws : List ℕ) where
-  one-more : (i : ℕ) → i < length ws → wordBytes (take (suc i) ws) ≡ wordBytes (take i ws) ++ le 8 (getD ws i 0)
+  one-more : (i : ℕ) → i < length ws → wordBytes (take (suc i) ws) ≡ wordBytes (take i ws) ++ le WORD (getD ws i 0)
   unfolding wordBytes
   one-more i h =
-      ap wordBytes (take-suc ws i 0 h) ∙ words-append (take i ws) (getD ws i 0 ∷ []) ∙ ap (λ (l : List ℕ). wordBytes (take i ws) ++ l) (append-nil (le 8 (getD ws i 0)))
+      ap wordBytes (take-suc ws i 0 h) ∙ words-append (take i ws) (getD ws i 0 ∷ []) ∙ ap (λ (l : List ℕ). wordBytes (take i ws) ++ l) (append-nil (le WORD (getD ws i 0)))
 
-  length-front : (i : ℕ) → i < length ws → length (wordBytes (take i ws)) ≡ 8 * i
-  length-front i h = length-words (take i ws) ∙ ap (λ (n : ℕ). 8 * n) (length-take-le i ws (omega arith))
+  length-front : (i : ℕ) → i < length ws → length (wordBytes (take i ws)) ≡ WORD * i
+  length-front i h = length-words (take i ws) ∙ ap (λ (n : ℕ). WORD * n) (length-take-le i ws (omega arith))
 
   pub words-none : (l : List ℕ) (at : ℕ) → l ≡ splice l at (wordBytes (take 0 ws))
   unfolding wordBytes splice
   words-none l at = refl
 
   pub words-again : (l b c : List ℕ) (at i n m : ℕ) → n ≡ min (length ws) m → i < n → b ≡ splice l at (wordBytes (take i ws))
-      → c ≡ splice b (at + 8 * i) (le 8 (getD ws i 0)) → c ≡ splice l at (wordBytes (take (i + 1) ws))
+      → c ≡ splice b (at + WORD * i) (le WORD (getD ws i 0)) → c ≡ splice l at (wordBytes (take (i + 1) ws))
   words-again l b c at i n m q k e d =
       let h : i < length ws = omega arith in
-      rw (d, e, add-one i, one-more i h) (splice-next l at (wordBytes (take i ws)) (le 8 (getD ws i 0)) (at + 8 * i) (let z = length-front i h in omega arith))
+      rw (d, e, add-one i, one-more i h) (splice-next l at (wordBytes (take i ws)) (le WORD (getD ws i 0)) (at + WORD * i) (let z = length-front i h in omega arith))
 
   -- those that are left begin past the end
-  words-past : (l : List ℕ) (at i : ℕ) → i < length ws → length l ≤ at + 8 * i → splice l at (wordBytes (take i ws)) ≡ splice l at (wordBytes ws)
+  words-past : (l : List ℕ) (at i : ℕ) → i < length ws → length l ≤ at + WORD * i → splice l at (wordBytes (take i ws)) ≡ splice l at (wordBytes ws)
   words-past l at i h k =
       let z = length-front i h in
       let f = length-splice l at (wordBytes (take i ws)) in
-      sym (splice-past (splice l at (wordBytes (take i ws))) (at + 8 * i) (wordBytes (drop i ws)) (omega arith))
-      ∙ splice-next l at (wordBytes (take i ws)) (wordBytes (drop i ws)) (at + 8 * i) (omega arith)
+      sym (splice-past (splice l at (wordBytes (take i ws))) (at + WORD * i) (wordBytes (drop i ws)) (omega arith))
+      ∙ splice-next l at (wordBytes (take i ws)) (wordBytes (drop i ws)) (at + WORD * i) (omega arith)
       ∙ ap (splice l at) (sym (words-append (take i ws) (drop i ws)) ∙ ap wordBytes (take-append-drop i ws))
 
-  pub words-end : (l b : List ℕ) (at i n : ℕ) → b ≡ splice l at (wordBytes (take i ws)) → i ≤ n → n ≤ i → n ≡ min (length ws) ((length l - at + 7) / 8)
+  pub words-end : (l b : List ℕ) (at i n : ℕ) → b ≡ splice l at (wordBytes (take i ws)) → i ≤ n → n ≤ i → n ≡ min (length ws) ((length l - at + (WORD - 1)) / WORD)
       → b ≡ splice l at (wordBytes ws)
   words-end l b at i n e a c q =
       e

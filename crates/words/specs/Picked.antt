@@ -12,7 +12,7 @@ use lib.Seq.{getD-append-seam}
 use Rattle.util.specs.Pick.{pick, yes-no}
 use Rattle.util.specs.Prefix.{countTo}
 use Rattle.le.specs.Le.{splice, splice-next, splice-long}
-use Rattle.words.specs.Words.{wordBytes, length-words}
+use Rattle.words.specs.Words.{WORD, wordBytes, length-words}
 use Rattle.words.specs.Rows.{rowWords, rows-join}
 
 unfoldable pub picked : (ℕ → Bool) → (ℕ → List ℕ) → ℕ → List ℕ
@@ -132,7 +132,7 @@ module _ (p : ℕ → Bool) (words : ℕ → List ℕ) where
   picked-none size l = record { few = omega arith; bytes = refl; long = omega arith }
 
   module _ (size i n : ℕ) (l b : List ℕ) (t : Bool) (is : t ≡ p i) (o : Standing size (picked p words i) l b n i) where
-    pub picked-more : 8 * length (words i) ≡ size → (c : List ℕ) → t ≡ true → c ≡ splice b (size * n) (wordBytes (words i)) → Standing size (picked p words (i + 1)) l c (n + 1) (i + 1)
+    pub picked-more : WORD * length (words i) ≡ size → (c : List ℕ) → t ≡ true → c ≡ splice b (size * n) (wordBytes (words i)) → Standing size (picked p words (i + 1)) l c (n + 1) (i + 1)
     unfolding picked pick
     picked-more k c y d =
         let a = o .few in

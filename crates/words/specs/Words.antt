@@ -6,13 +6,15 @@ use native.Mathlib.Omega.{arith}
 use native.Mathlib.Nat.{zero-add, not-suc-le-zero, le-of-suc-le-suc}
 use lib.ListN.{length, getD, length-append, List·getD-append}
 use lib.Seq.{getD-append-add}
-use Rattle.le.specs.Le.{get, le, splice, get-same, get-low, length-le, splice-in}
+use Rattle.le.specs.Le.{get, le, splice, get-same, get-low, le-low, length-le, splice-in}
 use Rattle.names.specs.declared.Name.{Name}
 use Rattle.names.specs.declared.Name.the-variants.{Good, Bad}
 
+-- the bytes of a word
 abbrev pub WORD : ℕ
 WORD = 8
 
+-- words one behind another
 unfoldable pub wordBytes : List ℕ → List ℕ
 wordBytes [] = []
 wordBytes (w ∷ ws) = le WORD w ++ wordBytes ws
@@ -31,35 +33,44 @@ nameLength (Good at n) = n
 nameLength Bad = 0
 
 -- ---- laws
+-- of a word its low 64 bits are put
+pub word-low : (v : ℕ) (ws : List ℕ) → wordBytes (v % 2 ^ 64 ∷ ws) ≡ wordBytes (v ∷ ws)
+unfolding wordBytes
+word-low v ws = ap (λ (l : List ℕ). l ++ wordBytes ws) (le-low WORD v)
+
+pub word-next : (u v : ℕ) (ws : List ℕ) → wordBytes (u ∷ v % 2 ^ 64 ∷ ws) ≡ wordBytes (u ∷ v ∷ ws)
+unfolding wordBytes
+word-next u v ws = ap (λ (l : List ℕ). le WORD u ++ (l ++ wordBytes ws)) (le-low WORD v)
+
 pub words-append : (xs ys : List ℕ) → wordBytes (xs ++ ys) ≡ wordBytes xs ++ wordBytes ys
 unfolding wordBytes
 words-append [] ys = refl
-words-append (x ∷ xs) ys = ap (λ (l : List ℕ). le 8 x ++ l) (words-append xs ys) ∙ sym (append-assoc (le 8 x) (wordBytes xs) (wordBytes ys))
+words-append (x ∷ xs) ys = ap (λ (l : List ℕ). le WORD x ++ l) (words-append xs ys) ∙ sym (append-assoc (le WORD x) (wordBytes xs) (wordBytes ys))
 
-pub length-words : (ws : List ℕ) → length (wordBytes ws) ≡ 8 * length ws
+pub length-words : (ws : List ℕ) → length (wordBytes ws) ≡ WORD * length ws
 unfolding wordBytes
 length-words [] = refl
 length-words (w ∷ ws) = simp (length-append, length-le, length-words ws) (omega arith)
 
-get-word : (ws : List ℕ) (j : ℕ) → j < length ws → get 8 (wordBytes ws) (8 * j) ≡ getD ws j 0 % 2 ^ 64
+get-word : (ws : List ℕ) (j : ℕ) → j < length ws → get WORD (wordBytes ws) (WORD * j) ≡ getD ws j 0 % 2 ^ 64
 unfolding wordBytes
 get-word [] j h = absurd (not-suc-le-zero h)
 get-word (w ∷ ws) zero h =
-    get-same 8 (le 8 w ++ wordBytes ws) (le 8 w) 0 0
-    (λ k p. rw zero-add (List·getD-append (le 8 w) (wordBytes ws) 0 k (rw length-le p)))
-    ∙ get-low 8 w
+    get-same WORD (le WORD w ++ wordBytes ws) (le WORD w) 0 0
+    (λ k p. rw zero-add (List·getD-append (le WORD w) (wordBytes ws) 0 k (rw length-le p)))
+    ∙ get-low WORD w
 get-word (w ∷ ws) (suc j) h =
-    get-same 8 (le 8 w ++ wordBytes ws) (wordBytes ws) (8 * suc j) (8 * j)
+    get-same WORD (le WORD w ++ wordBytes ws) (wordBytes ws) (WORD * suc j) (WORD * j)
     (λ k p.
-    let l : length (le 8 w) ≡ 8 = length-le 8 w in
-    let e : 8 * suc j + k ≡ length (le 8 w) + (8 * j + k) = omega arith in
-    rw e (getD-append-add (le 8 w) (wordBytes ws) (8 * j + k) 0))
+    let l : length (le WORD w) ≡ WORD = length-le WORD w in
+    let e : WORD * suc j + k ≡ length (le WORD w) + (WORD * j + k) = omega arith in
+    rw e (getD-append-add (le WORD w) (wordBytes ws) (WORD * j + k) 0))
     ∙ get-word ws j (le-of-suc-le-suc h)
 
 -- a word of a list that was put at the front of b
-pub word-back : (ws b : List ℕ) (j : ℕ) → 8 * length ws ≤ length b → j < length ws → get 8 (splice b 0 (wordBytes ws)) (8 * j) ≡ getD ws j 0 % 2 ^ 64
+pub word-back : (ws b : List ℕ) (j : ℕ) → WORD * length ws ≤ length b → j < length ws → get WORD (splice b 0 (wordBytes ws)) (WORD * j) ≡ getD ws j 0 % 2 ^ 64
 word-back ws b j f h =
-    let l : length (wordBytes ws) ≡ 8 * length ws = length-words ws in
-    get-same 8 (splice b 0 (wordBytes ws)) (wordBytes ws) (8 * j) (8 * j)
-    (λ k p. rw zero-add at (splice-in b 0 (wordBytes ws) (8 * j + k) (omega arith) (omega arith)))
+    let l : length (wordBytes ws) ≡ WORD * length ws = length-words ws in
+    get-same WORD (splice b 0 (wordBytes ws)) (wordBytes ws) (WORD * j) (WORD * j)
+    (λ k p. rw zero-add at (splice-in b 0 (wordBytes ws) (WORD * j + k) (omega arith) (omega arith)))
     ∙ get-word ws j h

@@ -3,14 +3,17 @@ use names::Name;
 ghost use mathlib.Core.Path.{_≡_};
 ghost use Prim.Native.Nat.{_+_, _-_, _/_, min};
 ghost use Rattle.le.specs.Le.{splice};
-ghost use Rattle.words.specs.Words.{wordBytes, nameStart, nameLength};
+ghost use Rattle.words.specs.Words.{WORD, wordBytes, nameStart, nameLength};
+
+// The bytes of a word.
+pub const WORD: usize = 8;
 
 // How many of `n` words from `at` on begin within `len` bytes.
 fn room(len: usize, at: usize, n: usize) -> usize
-    ensures { λ r. ⌜ r ≡ min n ((len - at + 7) / 8) ⌝ }
+    ensures { λ r. ⌜ r ≡ min n ((len - at + (WORD - 1)) / WORD) ⌝ }
 {
     if at < len {
-        let most = (len - 1 - at) / 8 + 1;
+        let most = (len - 1 - at) / WORD + 1;
         if n < most { n } else { most }
     } else {
         0
@@ -24,7 +27,7 @@ pub fn put(b: &mut [u8], at: usize, ws: &[u64])
     let n = room(b.len(), at, ws.len());
     let mut i: usize = 0;
     while i < n {
-        le::put_u64(b, at + 8 * i, ws[i]);
+        le::put_u64(b, at + WORD * i, ws[i]);
         i += 1;
     }
 }
@@ -39,6 +42,7 @@ pub fn name_start(name: Name) -> u64
     }
 }
 
+// How long it is.
 pub fn name_length(name: Name) -> u64
     ensures { λ r. ⌜ r ≡ nameLength name ⌝ }
 {

@@ -13,7 +13,7 @@ use Rattle.refusal.specs.Refusal.{Leaves}
 use Rattle.pagemap.specs.Pages.{storageOk, spanMapped}
 use Rattle.aspace.specs.Space.{offsetAt}
 use Rattle.aspace.specs.SpaceLaws.{offset-span, offset-there, leaves-same}
-use Rattle.write.specs.Write.{writeCode, writeCodeAt}
+use Rattle.write.specs.Write.{MAX-WRITE, writeCode, writeCodeAt}
 use Rattle.write.specs.WriteLaws.{write-span}
 
 module _ (size : ℕ) (marks : List ℕ) (o n : ℕ) (ok : Bool) (is : ok ≡ storageOk size (length marks)) where
@@ -21,15 +21,15 @@ module _ (size : ℕ) (marks : List ℕ) (o n : ℕ) (ok : Bool) (is : ok ≡ st
   unfolding writeCode pick
   write-bad e = rw (← is, e)
 
-  pub write-long : ok ≡ true → leb n 4096 ≡ false → 18 ≡ writeCode size marks o n
+  pub write-long : ok ≡ true → leb n MAX-WRITE ≡ false → 18 ≡ writeCode size marks o n
   unfolding writeCode pick
   write-long e t = rw (← is, e, t)
 
-  pub write-in : (s : Bool) → ok ≡ true → leb n 4096 ≡ true → s ≡ spanMapped size marks o n → s ≡ true → 0 ≡ writeCode size marks o n
+  pub write-in : (s : Bool) → ok ≡ true → leb n MAX-WRITE ≡ true → s ≡ spanMapped size marks o n → s ≡ true → 0 ≡ writeCode size marks o n
   unfolding writeCode pick
   write-in s e t q p = rw (← is, e, t, ← q, p)
 
-  pub write-out : (s : Bool) → ok ≡ true → leb n 4096 ≡ true → s ≡ spanMapped size marks o n → s ≡ false → 15 ≡ writeCode size marks o n
+  pub write-out : (s : Bool) → ok ≡ true → leb n MAX-WRITE ≡ true → s ≡ spanMapped size marks o n → s ≡ false → 15 ≡ writeCode size marks o n
   unfolding writeCode pick
   write-out s e t q p = rw (← is, e, t, ← q, p)
 

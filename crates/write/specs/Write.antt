@@ -1,4 +1,4 @@
--- What a write turns down, by offset from the base and by address (01, "aspace.rs" and the refusals of write).
+-- What a write refuses, by offset from the base and by address (01, "aspace.rs" and the refusals of write).
 use mathlib.Core.List.{List}
 use Prim.Native.Nat.{ℕ}
 use lib.ListN.{length}

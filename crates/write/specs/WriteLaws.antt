@@ -7,7 +7,7 @@ use Prim.Native.Nat.{ℕ, _+_, _≤_, _<_, _^_, max}
 use native.Mathlib.Omega.{arith}
 use lib.ListN.{length, getD}
 use lib.Dec.{leb}
-use Rattle.util.specs.Pick.{pick, passed, passed-on}
+use Rattle.util.specs.Pick.{pick, head-passes, rest-passes}
 use Rattle.le.specs.Le.{le, part, splice, length-splice, splice-below, splice-above, part-splice, get-splice}
 use Rattle.refusal.specs.declared.Number.the-variants.{Value}
 use Rattle.refusal.specs.Refusal.{numberOf}
@@ -15,21 +15,21 @@ use Rattle.pagemap.specs.Pages.{storageOk, spanMapped, readCode}
 use Rattle.pagemap.specs.PageLaws.{span-in}
 use Rattle.aspace.specs.Space.{readNumber}
 use Rattle.aspace.specs.SpaceLaws.{span-by-address}
-use Rattle.write.specs.Write.{writeCode, writeCodeAt}
+use Rattle.write.specs.Write.{MAX-WRITE, writeCode, writeCodeAt}
 
 -- ---- a write that is not refused
 module _ (size : ℕ) (marks : List ℕ) (o n : ℕ) (e : writeCode size marks o n ≡ 0) where
   write-storage : storageOk size (length marks) ≡ true
   unfolding writeCode
-  write-storage = passed (storageOk size (length marks)) (pick (leb n 4096) (pick (spanMapped size marks o n) 0 15) 18) 13 e (λ z. omega arith)
+  write-storage = head-passes (storageOk size (length marks)) (pick (leb n MAX-WRITE) (pick (spanMapped size marks o n) 0 15) 18) 13 e (λ z. omega arith)
 
   -- has all its pages mapped
   pub write-span : spanMapped size marks o n ≡ true
   unfolding writeCode
   write-span =
-      passed (spanMapped size marks o n) 0 15
-      (passed-on (leb n 4096) (pick (spanMapped size marks o n) 0 15) 18
-      (passed-on (storageOk size (length marks)) (pick (leb n 4096) (pick (spanMapped size marks o n) 0 15) 18) 13 e (λ z. omega arith))
+      head-passes (spanMapped size marks o n) 0 15
+      (rest-passes (leb n MAX-WRITE) (pick (spanMapped size marks o n) 0 15) 18
+      (rest-passes (storageOk size (length marks)) (pick (leb n MAX-WRITE) (pick (spanMapped size marks o n) 0 15) 18) 13 e (λ z. omega arith))
       (λ z. omega arith))
       (λ z. omega arith)
 

@@ -18,6 +18,7 @@ pub fn write(image: &mut [u8], marks: &[u8], base: VA, addr: VA, v: &[u8]) -> An
     relative::write(image, marks, offset_at(base, addr, v.len() as u64), v)
 }
 
+// A number of 2 bytes, and one of 4.
 pub fn write_u16(image: &mut [u8], marks: &[u8], base: VA, addr: VA, v: u16) -> Answer
     ensures { λ r. ⌜ Leaves (writeCodeAt (length (now (image .entry))) (now (marks .entry)) (base .0) (addr .0) 2)
         (now (image .entry)) (splice (now (image .entry)) (addr .0 - base .0) (le 2 v)) (now (image .exit)) r ⌝ }
@@ -25,6 +26,7 @@ pub fn write_u16(image: &mut [u8], marks: &[u8], base: VA, addr: VA, v: u16) -> 
     relative::write_u16(image, marks, offset_at(base, addr, 2), v)
 }
 
+// Four bytes.
 pub fn write_u32(image: &mut [u8], marks: &[u8], base: VA, addr: VA, v: u32) -> Answer
     ensures { λ r. ⌜ Leaves (writeCodeAt (length (now (image .entry))) (now (marks .entry)) (base .0) (addr .0) 4)
         (now (image .entry)) (splice (now (image .entry)) (addr .0 - base .0) (le 4 v)) (now (image .exit)) r ⌝ }
@@ -40,6 +42,7 @@ pub fn write_i32(image: &mut [u8], marks: &[u8], base: VA, addr: VA, v: u32) -> 
     relative::write_i32(image, marks, offset_at(base, addr, 4), v)
 }
 
+// A number of 8 bytes.
 pub fn write_u64(image: &mut [u8], marks: &[u8], base: VA, addr: VA, v: u64) -> Answer
     ensures { λ r. ⌜ Leaves (writeCodeAt (length (now (image .entry))) (now (marks .entry)) (base .0) (addr .0) 8)
         (now (image .entry)) (splice (now (image .entry)) (addr .0 - base .0) (le 8 v)) (now (image .exit)) r ⌝ }

@@ -1,5 +1,5 @@
 use borrow.Author.Needs.{needs}
-use Rattle.checks.proofs.Laws.{bases}
+use Rattle.checks.proofs.Laws.{base-is}
 use Rattle.checks.proofs.base_ok.Statement.{statement}
 use Rattle.checks.proofs.base_ok.Tie as tie
 
@@ -7,5 +7,6 @@ pub base-ok-spec : {M : Type 1} → statement M
 base-ok-spec =
     tie.close
     (tie.spec
-    (λ c. search (needs, bases))
-    (λ c. search (needs, bases)))
+    (λ c. search needs)
+    (λ c. search needs)
+    (λ c. search (needs, base-is)))

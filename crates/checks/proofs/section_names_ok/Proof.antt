@@ -1,9 +1,8 @@
 use borrow.Author.Needs.{needs}
-use Rattle.util.specs.Prefix.{all-loop}
+use Rattle.util.specs.Prefix.{all-loop, allTo}
 use Prim.Native.Nat.{_-_, _≤_}
 use mathlib.Core.Path.{_≡_}
 use mathlib.Core.Bool.{true}
-use Rattle.util.specs.Prefix.{allTo}
 use Rattle.checks.specs.Checks.{sectionNameOk}
 use Rattle.checks.proofs.section_names_ok.Statement.{statement}
 use Rattle.checks.proofs.section_names_ok.Tie as tie

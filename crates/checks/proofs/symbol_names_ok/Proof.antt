@@ -1,17 +1,16 @@
 use borrow.Author.Needs.{needs}
-use Rattle.checks.proofs.Laws.{symbols-loop}
+use Rattle.util.specs.Prefix.{all-loop, allTo, all-again}
 use Prim.Native.Nat.{_-_, _≤_}
 use mathlib.Core.Path.{_≡_}
 use mathlib.Core.Bool.{true}
-use Rattle.util.specs.Prefix.{allTo}
-use Rattle.object.specs.Symbol.{owed}
-use Rattle.checks.specs.Checks.{fineAt, nameOk}
-use Rattle.checks.proofs.Laws.{left-again, symbols-again}
+use Rattle.object.specs.Symbol.{auxiliariesLeft}
+use Rattle.object.specs.SymbolLaws.{left-none, left-again}
+use Rattle.checks.specs.Checks.{okAt, nameOk}
 use Rattle.checks.proofs.symbol_names_ok.Statement.{statement}
 use Rattle.checks.proofs.symbol_names_ok.Tie as tie
 
 abbrev Inv-loop : tie.InvT-loop
-Inv-loop f h n left₀ j₀ left j = (j ≤ n) × (left ≡ owed f h j) × (allTo (fineAt nameOk f h) j ≡ true)
+Inv-loop f h n left₀ j₀ left j = (j ≤ n) × (left ≡ auxiliariesLeft f h j) × (allTo (okAt nameOk f h) j ≡ true)
 
 abbrev μ-loop : tie.MeasureT-loop
 μ-loop f h n left₀ j₀ left j = n - j
@@ -22,11 +21,11 @@ symbol-names-ok-spec =
     (tie.spec
     Inv-loop
     μ-loop
-    (λ c. search (needs, symbols-loop))
-    (λ c. search (needs, symbols-loop))
-    (λ c. search (needs, symbols-loop))
-    (λ c. search (needs, symbols-loop))
-    (λ c. search (needs, symbols-loop))
-    (λ c. search (needs, symbols-loop))
-    (λ c. (search needs, search (needs, left-again), search (needs, symbols-again)))
-    (λ c. search (needs, symbols-loop)))
+    (λ c. search (needs, all-loop, left-none))
+    (λ c. search (needs, all-loop))
+    (λ c. search (needs, all-loop))
+    (λ c. search (needs, all-loop))
+    (λ c. search (needs, all-loop))
+    (λ c. search (needs, all-loop))
+    (λ c. (search needs, search (needs, left-again), search (needs, all-again)))
+    (λ c. search (needs, all-loop)))

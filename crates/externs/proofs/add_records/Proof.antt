@@ -5,14 +5,16 @@ use mathlib.Core.Path.{_≡_}
 use lib.ListN.{length}
 use Rattle.externs.specs.Externs.{externRecords}
 use Rattle.externs.specs.Held.{held}
+use Rattle.limits.specs.Limits.{MAX-EXTERNS}
+use Rattle.object.specs.Symbol.{isOwn}
 use Rattle.externs.proofs.add_records.Statement.{statement}
 use Rattle.externs.proofs.add_records.Tie as tie
 
 abbrev Inv-loop : tie.InvT-loop
-Inv-loop f h map set₀ n i m count₀ k₀ set count k = (k ≤ m) × (count ≤ 1024) × (1024 < length set) × (length set ≡ length set₀) × (held count set ≡ externRecords f h map i (held n set₀) k)
+Inv-loop f h own slots₀ n i m count₀ k₀ slots count k = (k ≤ m) × (count ≤ MAX-EXTERNS) × (MAX-EXTERNS < length slots) × (length slots ≡ length slots₀) × (held count slots ≡ externRecords f h (isOwn own) i (held n slots₀) k)
 
 abbrev μ-loop : tie.MeasureT-loop
-μ-loop f h map set₀ n i m count₀ k₀ set count k = m - k
+μ-loop f h own slots₀ n i m count₀ k₀ slots count k = m - k
 
 pub add-records-spec : {M : Type 1} → statement M
 add-records-spec =

@@ -5,14 +5,16 @@ use mathlib.Core.Path.{_≡_}
 use lib.ListN.{length}
 use Rattle.externs.specs.Externs.{externsTo}
 use Rattle.externs.specs.Held.{held}
+use Rattle.limits.specs.Limits.{MAX-EXTERNS}
+use Rattle.object.specs.Symbol.{isOwn}
 use Rattle.externs.proofs.fill.Statement.{statement}
 use Rattle.externs.proofs.fill.Tie as tie
 
 abbrev Inv-loop : tie.InvT-loop
-Inv-loop f h map set₀ m count₀ i₀ set count i = (i ≤ m) × (count ≤ 1024) × (1024 < length set) × (length set ≡ length set₀) × (held count set ≡ externsTo f h map i)
+Inv-loop f h own slots₀ m count₀ i₀ slots count i = (i ≤ m) × (count ≤ MAX-EXTERNS) × (MAX-EXTERNS < length slots) × (length slots ≡ length slots₀) × (held count slots ≡ externsTo f h (isOwn own) i)
 
 abbrev μ-loop : tie.MeasureT-loop
-μ-loop f h map set₀ m count₀ i₀ set count i = m - i
+μ-loop f h own slots₀ m count₀ i₀ slots count i = m - i
 
 pub fill-spec : {M : Type 1} → statement M
 fill-spec =

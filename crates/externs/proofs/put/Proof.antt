@@ -1,15 +1,14 @@
 use borrow.Author.Needs.{needs}
-use Rattle.externs.proofs.Laws.{shift-loop}
-use Rattle.externs.proofs.Laws.{Shifted}
+use Rattle.externs.proofs.Laws.{shift-loop, Shifted}
 use Prim.Native.Nat.{_≤_}
 use Rattle.externs.proofs.put.Statement.{statement}
 use Rattle.externs.proofs.put.Tie as tie
 
 abbrev Inv-loop : tie.InvT-loop
-Inv-loop set₀ n p j q₀ set q = (p ≤ q) × (q ≤ n) × Shifted set₀ n set q
+Inv-loop slots₀ n p j q₀ slots q = (p ≤ q) × (q ≤ n) × Shifted slots₀ n slots q
 
 abbrev μ-loop : tie.MeasureT-loop
-μ-loop set₀ n p j q₀ set q = q
+μ-loop slots₀ n p j q₀ slots q = q
 
 pub put-spec : {M : Type 1} → statement M
 put-spec =

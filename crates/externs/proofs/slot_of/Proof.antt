@@ -8,10 +8,10 @@ use Rattle.externs.proofs.slot_of.Statement.{statement}
 use Rattle.externs.proofs.slot_of.Tie as tie
 
 abbrev Inv-loop : tie.InvT-loop
-Inv-loop f h set name lo₀ n₀ lo n = (lo + n ≤ length set) × (halves f h set name n lo n ≡ bisect f h set name)
+Inv-loop f h slots name lo₀ n₀ lo n = (lo + n ≤ length slots) × (halves f h slots name n lo n ≡ bisect f h slots name)
 
 abbrev μ-loop : tie.MeasureT-loop
-μ-loop f h set name lo₀ n₀ lo n = n
+μ-loop f h slots name lo₀ n₀ lo n = n
 
 pub slot-of-spec : {M : Type 1} → statement M
 slot-of-spec =

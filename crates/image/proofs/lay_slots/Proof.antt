@@ -7,7 +7,7 @@ use Rattle.image.proofs.lay_slots.Statement.{statement}
 use Rattle.image.proofs.lay_slots.Tie as tie
 
 abbrev Inv-loop : tie.InvT-loop
-Inv-loop base undef n image₀ e₀ image e = (e ≤ n) × (image ≡ slotsLaid base undef image₀ e)
+Inv-loop base undef n image₀ e₀ image e = (e ≤ n) × (image ≡ slotsLaid (base .0) (undef .0) image₀ e)
 
 abbrev μ-loop : tie.MeasureT-loop
 μ-loop base undef n image₀ e₀ image e = n - e

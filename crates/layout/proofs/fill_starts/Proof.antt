@@ -1,9 +1,8 @@
 use borrow.Author.Needs.{needs}
 use Rattle.layout.proofs.Laws.{starts-loop, start-loop}
-use Rattle.le.specs.Le.{splice-long}
+use Rattle.le.specs.Le.{splice, splice-long}
 use Prim.Native.Nat.{_-_, _*_, _≤_}
 use mathlib.Core.Path.{_≡_}
-use Rattle.le.specs.Le.{splice}
 use Rattle.layout.specs.Layout.{startAt, startsTo}
 use Rattle.layout.proofs.fill_starts.Statement.{statement}
 use Rattle.layout.proofs.fill_starts.Tie as tie

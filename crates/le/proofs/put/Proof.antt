@@ -1,6 +1,5 @@
 use borrow.Author.Needs.{needs}
-use Rattle.le.proofs.Laws.{putting}
-use Rattle.le.proofs.Laws.{Putting}
+use Rattle.le.proofs.Laws.{putting, Putting}
 use Rattle.le.specs.Le.{le}
 use mathlib.Core.Path.{_≡_}
 use Prim.Native.Nat.{_-_, _/_, _^_, _≤_}

@@ -1,18 +1,20 @@
 use borrow.Author.Needs.{needs}
 use Rattle.lists.proofs.Laws.{row-none, row-again, row-end, row-room, fixes-long, skips-long}
 use Prim.Native.Nat.{_-_, _≤_}
+use Rattle.object.specs.Symbol.{isOwn}
+use Rattle.homes.specs.Home.{homeIn}
 use Rattle.externs.specs.Bisect.{bisect}
 use Rattle.fixups.specs.Outcome.{outcome}
-use Rattle.fixups.specs.Lists.{recordsTo}
+use Rattle.fixups.specs.Lists.{overRecords}
 use Rattle.lists.specs.Relocations.{fixBytesAt, skipBytesAt, Step}
 use Rattle.lists.proofs.write_section.Statement.{statement}
 use Rattle.lists.proofs.write_section.Tie as tie
 
 abbrev Inv-loop : tie.InvT-loop
-Inv-loop arch f h map homes undef set base i fixups₀ skips₀ m q₀ k₀ fixups skips q k = (k ≤ m) × Step q₀ (recordsTo (fixBytesAt base (outcome arch f h map homes undef (bisect f h set))) i k) (recordsTo (skipBytesAt (outcome arch f h map homes undef (bisect f h set))) i k) fixups₀ fixups skips₀ skips q k
+Inv-loop arch f h own homes undef slots base i fixups₀ skips₀ m q₀ k₀ fixups skips q k = (k ≤ m) × Step q₀ (overRecords (fixBytesAt (base .0) (outcome arch f h (isOwn own) (homeIn homes) undef (bisect f h slots))) i k) (overRecords (skipBytesAt (outcome arch f h (isOwn own) (homeIn homes) undef (bisect f h slots))) i k) fixups₀ fixups skips₀ skips q k
 
 abbrev μ-loop : tie.MeasureT-loop
-μ-loop arch f h map homes undef set base i fixups₀ skips₀ m q₀ k₀ fixups skips q k = m - k
+μ-loop arch f h own homes undef slots base i fixups₀ skips₀ m q₀ k₀ fixups skips q k = m - k
 
 pub write-section-spec : {M : Type 1} → statement M
 write-section-spec =

@@ -7,7 +7,8 @@ pub layout-room-spec : {M : Type 1} → statement M
 layout-room-spec =
     tie.close
     (tie.spec
-    (λ c. search (needs, rooms))
-    (λ c. search (needs, rooms))
-    (λ c. search (needs, rooms))
+    (λ c. search needs)
+    (λ c. search needs)
+    (λ c. search needs)
+    (λ c. search needs)
     (λ c. search (needs, rooms)))

@@ -7,7 +7,11 @@ pub lists-room-spec : {M : Type 1} → statement M
 lists-room-spec =
     tie.close
     (tie.spec
-    (λ c. search (needs, rooms))
-    (λ c. search (needs, rooms))
-    (λ c. search (needs, rooms))
+    (λ c. search needs)
+    (λ c. search needs)
+    (λ c. search needs)
+    (λ c. search needs)
+    (λ c. search needs)
+    (λ c. search needs)
+    (λ c. search needs)
     (λ c. search (needs, rooms)))

@@ -7,7 +7,7 @@ pub room-ok-spec : {M : Type 1} → statement M
 room-ok-spec =
     tie.close
     (tie.spec
-    (λ c. search (needs, rooms))
-    (λ c. search (needs, rooms))
-    (λ c. search (needs, rooms))
+    (λ c. search needs)
+    (λ c. search needs)
+    (λ c. search needs)
     (λ c. search (needs, rooms)))

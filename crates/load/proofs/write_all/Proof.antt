@@ -1,6 +1,7 @@
 use borrow.Author.Needs.{needs}
 use Rattle.load.proofs.Laws.{storing}
 use Rattle.load.proofs.Laws.{stored-is}
+use mathlib.Core.Path.{refl}
 use Rattle.load.proofs.write_all.Statement.{statement}
 use Rattle.load.proofs.write_all.Tie as tie
 
@@ -8,14 +9,19 @@ pub write-all-spec : {M : Type 1} → statement M
 write-all-spec =
     tie.close
     (tie.spec
-    (λ c. search (needs, storing))
-    (λ c. search (needs, storing))
-    (λ c. search (needs, storing))
-    (λ c. search (needs, storing))
-    (λ c. search (needs, storing))
-    (λ c. search (needs, storing))
-    (λ c. search (needs, storing))
-    (λ c. search (needs, storing))
-    (λ c. search (needs, storing))
-    (λ c. search (needs, storing))
-    (λ c. stored-is _ _ _ _ _ _ _ _ _ _ _ _ _ _ _ _ _ _ _ _ _ _ _ _ (c .before .before .before .before .before .before .before .before .before .before .before .before .before .before .before .before .before .before .before .before .before .before .before .before .before .before .before .before .before .before .before .before .before .before .before .pre) (c .before .before .before .before .before .before .before .before .before .before .before .before .before .before .before .before .before .before .before .before .write-layout .ensures) (c .before .before .before .before .before .before .before .before .before .before .before .write-names .ensures) (c .before .before .before .before .write-relocations .ensures)))
+    (λ c. search needs)
+    (λ c. search needs)
+    (λ c. search needs)
+    (λ c. search needs)
+    (λ c. search needs)
+    (λ c. search needs)
+    (λ c. search needs)
+    (λ c. search needs)
+    (λ c. search needs)
+    (λ c. search needs)
+    (λ c. search needs)
+    (λ c. search needs)
+    (λ c. search needs)
+    (λ c. search needs)
+    (λ c. search needs)
+    (λ c. stored-is _ _ _ _ _ _ _ _ _ _ _ _ _ _ _ _ _ _ _ _ _ _ _ _ _ (c .before .before .before .before .before .before .before .before .before .before .before .before .before .before .before .before .before .before .before .before .before .before .before .before .before .before .before .before .before .before .before .before .before .before .before .before .before .before .before .pre) (c .before .before .before .before .before .before .before .before .before .before .before .before .before .before .before .before .before .before .before .before .before .before .before .before .before .before .before .undef-start .ensures .0) (c .before .before .before .before .before .before .before .before .before .before .before .before .before .before .before .before .before .before .before .before .before .before .before .before .before .before .undef-offset .ensures) (c .before .before .before .before .before .before .before .before .before .before .before .before .before .before .before .before .before .before .before .before .before .before .before .before .before .page-total .ensures) (c .before .before .before .before .before .before .before .before .before .before .before .before .before .before .before .before .before .before .before .before .before .before .before .before .by-machine .ensures) refl (c .before .before .before .before .before .before .before .before .before .before .before .before .before .before .before .before .before .before .before .before .write-layout .ensures) (c .before .before .before .before .before .before .before .before .before .before .before .write-names .ensures) (c .before .before .before .before .write-relocations .ensures)))

@@ -46,6 +46,7 @@ use denote.Triple.Spec.{Meets, tripleOf}
 use denote.Triple.Table.{entered, cited}
 use denote.Triple.Walked.{says, Stays, stay-slice, stay-none-slice, walkOf, goes-slice, goes-none-slice, Walks, ends-at, walked, walk-meets}
 use denote.Exit.{yes}
+use Rattle.limits.specs.Limits.{SECTION-BYTES}
 use Rattle.section.specs.declared.Section.{Section}
 use Rattle.module.specs.Questions.{blank, sectionAt, fillTo}
 use Rattle.module.specs.QuestionLaws.{length-fillTo}
@@ -164,7 +165,7 @@ module _ {M : Type 1} (𝓤 : URA M) (H : Heap 𝓤) (A : Atoms 𝓤) (W : Given
   abbrev to : ℕ → Callee 𝓤 H A mem run .Ghost
   to i = (((κ′, tt), (q′, tt), tt, (src, (i, tt)), (slice-vals src, (vint w64 i ∷ [], tt))), tt)
 
-  asked : (i : ℕ) → i < 2 ^ 64 → i < 2 ^ 58 → ent 𝓤 (⋆ 𝓤 H A (‵ Src ∷ ‵ (flft κ′ q′) ∷ [])) (Callee 𝓤 H A mem run .pre (to i))
+  asked : (i : ℕ) → i < 2 ^ 64 → SECTION-BYTES * i + SECTION-BYTES ≤ 2 ^ 64 → ent 𝓤 (⋆ 𝓤 H A (‵ Src ∷ ‵ (flft κ′ q′) ∷ [])) (Callee 𝓤 H A mem run .pre (to i))
   asked i gi l =
       qed W (‵ Src ∷ ‵ (flft κ′ q′) ∷ []) ∵ says ! l $
       nothing ! $ owned ! usize (Is usize) (uint-makes 𝓤 H A W w64) i _ (refl, gi) $ fjoin ! $ move ! (1 ∷ 0 ∷ []) $ fjoin ! $ nothing ! $ move ! (2 ∷ 0 ∷ []) $ join ! $ done !
@@ -221,7 +222,7 @@ module _ {M : Type 1} (𝓤 : URA M) (H : Heap 𝓤) (A : Atoms 𝓤) (W : Given
         (λ more.
         let l : i < m = ltb→lt i m more in
         let inside : i < length (zs i) = omega (arith, length-fillTo (src .now) i ys) in
-        let few : i < 2 ^ 58 = omega (arith, gm .0) in
+        let few : SECTION-BYTES * i + SECTION-BYTES ≤ 2 ^ 64 = omega (arith, gm .0) in
         let small : i * 64 < 2 ^ 64 = omega arith in
         let fits : i < 2 ^ 64 = omega arith in
         let next : i + 1 < 2 ^ 64 = omega arith in

@@ -7,7 +7,7 @@ use Rattle.patch.proofs.apply_portion.Statement.{statement}
 use Rattle.patch.proofs.apply_portion.Tie as tie
 
 abbrev Inv-loop : tie.InvT-loop
-Inv-loop base fixes p n image₀ k₀ image k = (k ≤ n) × (image ≡ fixedFrom base fixes image₀ p k)
+Inv-loop base fixes p n image₀ k₀ image k = (k ≤ n) × (image ≡ fixedFrom (base .0) fixes image₀ p k)
 
 abbrev μ-loop : tie.MeasureT-loop
 μ-loop base fixes p n image₀ k₀ image k = n - k

@@ -1,5 +1,5 @@
 use borrow.Author.Needs.{needs}
-use Rattle.section.proofs.Laws.{tests}
+use Rattle.section.proofs.Laws.{both-are}
 use Rattle.section.proofs.grants.Statement.{statement}
 use Rattle.section.proofs.grants.Tie as tie
 
@@ -9,5 +9,5 @@ grants-spec =
     (tie.spec
     (λ c κs. search needs)
     (λ c κs. search needs)
-    (λ c. search (needs, tests))
-    (λ c. search (needs, tests)))
+    (λ c κs. search needs)
+    (λ c. search (needs, both-are)))

@@ -1,5 +1,5 @@
 use borrow.Author.Needs.{needs}
-use Rattle.section.proofs.Laws.{tests}
+use Rattle.section.proofs.Laws.{name-ways}
 use Rattle.section.proofs.has_name.Statement.{statement}
 use Rattle.section.proofs.has_name.Tie as tie
 
@@ -10,5 +10,5 @@ has-name-spec =
     (λ c κs. search needs)
     (λ c κs. search needs)
     (λ c κs. search needs)
-    (λ c. search (needs, tests))
-    (λ c. search (needs, tests)))
+    (λ c. search (needs, name-ways))
+    (λ c. search (needs, name-ways)))

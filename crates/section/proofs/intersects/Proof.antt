@@ -1,5 +1,5 @@
 use borrow.Author.Needs.{needs}
-use Rattle.section.proofs.Laws.{tests}
+use Rattle.section.proofs.Laws.{either-is}
 use Rattle.section.proofs.intersects.Statement.{statement}
 use Rattle.section.proofs.intersects.Tie as tie
 
@@ -10,6 +10,6 @@ intersects-spec =
     (λ c κs. search needs)
     (λ c κs. search needs)
     (λ c κs. search needs)
-    (λ c. search (needs, tests))
-    (λ c. search (needs, tests))
-    (λ c. search (needs, tests)))
+    (λ c κs. search needs)
+    (λ c κs. search needs)
+    (λ c. search (needs, either-is)))

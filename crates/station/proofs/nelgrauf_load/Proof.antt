@@ -17,5 +17,6 @@ nelgrauf-load-spec =
     (λ c. search needs)
     (λ c. search needs)
     (λ c. search needs)
+    (λ c. search needs)
     (λ c. search (needs, load-told, both-short))
     (λ c. search (needs, load-told, both-short)))

@@ -1,5 +1,5 @@
 use borrow.Author.Needs.{needs}
-use Rattle.strings.proofs.Laws.{text-bytes}
+use Rattle.strings.proofs.Laws.{text-byte}
 use Rattle.strings.proofs.is_text.Statement.{statement}
 use Rattle.strings.proofs.is_text.Tie as tie
 
@@ -7,7 +7,8 @@ pub is-text-spec : {M : Type 1} → statement M
 is-text-spec =
     tie.close
     (tie.spec
-    (λ c. search (needs, text-bytes))
-    (λ c. search (needs, text-bytes))
-    (λ c. search (needs, text-bytes))
-    (λ c. search (needs, text-bytes)))
+    (λ c. search needs)
+    (λ c. search needs)
+    (λ c. search needs)
+    (λ c. search needs)
+    (λ c. search (needs, text-byte)))

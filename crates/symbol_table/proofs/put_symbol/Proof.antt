@@ -1,6 +1,5 @@
 use borrow.Author.Needs.{needs}
 use Rattle.symbol_table.proofs.Laws.{symbol-put}
-use Rattle.le.specs.Le.{splice-long}
 use Rattle.symbol_table.proofs.put_symbol.Statement.{statement}
 use Rattle.symbol_table.proofs.put_symbol.Tie as tie
 
@@ -8,18 +7,18 @@ pub put-symbol-spec : {M : Type 1} → statement M
 put-symbol-spec =
     tie.close
     (tie.spec
-    (λ c. search (needs, symbol-put, splice-long))
-    (λ c. search (needs, symbol-put, splice-long))
-    (λ c. search (needs, symbol-put, splice-long))
-    (λ c. search (needs, symbol-put, splice-long))
-    (λ c. search (needs, symbol-put, splice-long))
-    (λ c. search (needs, symbol-put, splice-long))
-    (λ c. search (needs, symbol-put, splice-long))
-    (λ c. search (needs, symbol-put, splice-long))
-    (λ c. search (needs, symbol-put, splice-long))
-    (λ c. search (needs, symbol-put, splice-long))
-    (λ c. search (needs, symbol-put, splice-long))
-    (λ c. search (needs, symbol-put, splice-long))
-    (λ c. search (needs, symbol-put, splice-long))
-    (λ c. search (needs, symbol-put, splice-long))
-    (λ c. search (needs, symbol-put, splice-long)))
+    (λ c. search needs)
+    (λ c. search needs)
+    (λ c. search needs)
+    (λ c. search needs)
+    (λ c. search needs)
+    (λ c. search needs)
+    (λ c. search needs)
+    (λ c. search needs)
+    (λ c. search needs)
+    (λ c. search needs)
+    (λ c. search needs)
+    (λ c. search needs)
+    (λ c. search needs)
+    (λ c. search needs)
+    (λ c. search (needs, symbol-put)))

@@ -7,9 +7,11 @@ pub named-for-spec : {M : Type 1} → statement M
 named-for-spec =
     tie.close
     (tie.spec
-    (λ c. search (needs, named))
-    (λ c. search (needs, named))
-    (λ c. search (needs, named))
-    (λ c. search (needs, named))
+    (λ c. search needs)
+    (λ c. search needs)
+    (λ c. search needs)
+    (λ c. search needs)
+    (λ c. search needs)
+    (λ c. search needs)
     (λ c. search (needs, named))
     (λ c. search (needs, named)))

@@ -1,15 +1,14 @@
 use borrow.Author.Needs.{needs}
-use mathlib.Core.Path.{_≡_}
-use Prim.Native.Nat.{_-_}
+use Prim.Native.Nat.{_-_, _≤_}
 use lib.ListN.{length}
 use Rattle.test_module.proofs.cases.Statement.{statement}
 use Rattle.test_module.proofs.cases.Tie as tie
 
 abbrev Inv-loop : tie.InvT-loop
-Inv-loop file₀ n₀ file n = length file ≡ length file₀
+Inv-loop text n₀ at₀ t5 n at = n ≤ at
 
 abbrev μ-loop : tie.MeasureT-loop
-μ-loop file₀ n₀ file n = 0xFFFFFFFFFFFFFFFF - n
+μ-loop text n₀ at₀ t5 n at = length text - at
 
 pub cases-spec : {M : Type 1} → statement M
 cases-spec =
@@ -17,6 +16,12 @@ cases-spec =
     (tie.spec
     Inv-loop
     μ-loop
+    (λ c. search needs)
+    (λ c. search needs)
+    (λ c. search needs)
+    (λ c. search needs)
+    (λ c. search needs)
+    (λ c. search needs)
     (λ c. search needs)
     (λ c. search needs)
     (λ c. search needs)

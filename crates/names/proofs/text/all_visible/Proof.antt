@@ -1,10 +1,9 @@
 use borrow.Author.Needs.{needs}
-use Rattle.util.specs.Prefix.{all-loop}
+use Rattle.util.specs.Prefix.{all-loop, allTo}
 use Prim.Native.Nat.{_-_, _≤_}
 use mathlib.Core.Path.{_≡_}
 use mathlib.Core.Bool.{true}
 use lib.ListN.{getD}
-use Rattle.util.specs.Prefix.{allTo}
 use Rattle.names.specs.Bytes.{visible}
 use Rattle.names.proofs.text.all_visible.Statement.{statement}
 use Rattle.names.proofs.text.all_visible.Tie as tie

@@ -1,9 +1,8 @@
 use borrow.Author.Needs.{needs}
-use Rattle.names.proofs.Laws.{decimal-loop}
+use Rattle.names.proofs.Laws.{decimal-loop, Small, small-fits}
 use Prim.Native.Nat.{_-_, _≤_}
 use mathlib.Core.Path.{_≡_}
 use Rattle.names.specs.Bytes.{decimalTo}
-use Rattle.names.proofs.Laws.{Small, small-fits}
 use native.Mathlib.Omega.{arith}
 use Rattle.names.proofs.text.decimal.Statement.{statement}
 use Rattle.names.proofs.text.decimal.Tie as tie

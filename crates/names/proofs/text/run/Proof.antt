@@ -1,9 +1,8 @@
 use borrow.Author.Needs.{needs}
-use Rattle.names.proofs.Laws.{run-loop}
+use Rattle.names.proofs.Laws.{run-loop, run-more}
 use Prim.Native.Nat.{_+_, _-_, _≤_}
 use mathlib.Core.Path.{_≡_}
 use Rattle.names.specs.Bytes.{run}
-use Rattle.names.proofs.Laws.{run-more}
 use native.Mathlib.Omega.{arith}
 use Rattle.names.proofs.text.run.Statement.{statement}
 use Rattle.names.proofs.text.run.Tie as tie

@@ -1,5 +1,5 @@
 use borrow.Author.Needs.{needs}
-use Rattle.object.proofs.Laws.{flag-ways}
+use Rattle.object.proofs.Laws.{extended-is}
 use Rattle.object.proofs.sections.is_extended.Statement.{statement}
 use Rattle.object.proofs.sections.is_extended.Tie as tie
 
@@ -7,7 +7,7 @@ pub is-extended-spec : {M : Type 1} → statement M
 is-extended-spec =
     tie.close
     (tie.spec
-    (λ c. search (needs, flag-ways))
-    (λ c. search (needs, flag-ways))
-    (λ c. search (needs, flag-ways))
-    (λ c. search (needs, flag-ways)))
+    (λ c. search needs)
+    (λ c. search needs)
+    (λ c. search needs)
+    (λ c. search (needs, extended-is)))

@@ -14,5 +14,4 @@ slice-code-spec =
     (λ c. search (needs, slice-ways))
     (λ c. search (needs, slice-ways))
     (λ c. search (needs, slice-ways))
-    (λ c. search (needs, slice-ways))
     (λ c. search (needs, slice-ways)))

@@ -15,5 +15,4 @@ span-mapped-spec =
     (λ c. search (needs, span-ways))
     (λ c. search (needs, span-ways))
     (λ c. search (needs, span-ways))
-    (λ c. search (needs, span-ways))
     (λ c. search (needs, span-ways)))

@@ -1,6 +1,5 @@
 use borrow.Author.Needs.{needs}
 use Rattle.tables.proofs.Laws.{section-put}
-use Rattle.le.specs.Le.{splice-long}
 use Rattle.tables.proofs.sections.put_section.Statement.{statement}
 use Rattle.tables.proofs.sections.put_section.Tie as tie
 
@@ -8,22 +7,22 @@ pub put-section-spec : {M : Type 1} → statement M
 put-section-spec =
     tie.close
     (tie.spec
-    (λ c. search (needs, section-put, splice-long))
-    (λ c. search (needs, section-put, splice-long))
-    (λ c. search (needs, section-put, splice-long))
-    (λ c. search (needs, section-put, splice-long))
-    (λ c. search (needs, section-put, splice-long))
-    (λ c. search (needs, section-put, splice-long))
-    (λ c. search (needs, section-put, splice-long))
-    (λ c. search (needs, section-put, splice-long))
-    (λ c. search (needs, section-put, splice-long))
-    (λ c. search (needs, section-put, splice-long))
-    (λ c. search (needs, section-put, splice-long))
-    (λ c. search (needs, section-put, splice-long))
-    (λ c. search (needs, section-put, splice-long))
-    (λ c. search (needs, section-put, splice-long))
-    (λ c. search (needs, section-put, splice-long))
-    (λ c. search (needs, section-put, splice-long))
-    (λ c. search (needs, section-put, splice-long))
-    (λ c. search (needs, section-put, splice-long))
-    (λ c. search (needs, section-put, splice-long)))
+    (λ c. search needs)
+    (λ c. search needs)
+    (λ c. search needs)
+    (λ c. search needs)
+    (λ c. search needs)
+    (λ c. search needs)
+    (λ c. search needs)
+    (λ c. search needs)
+    (λ c. search needs)
+    (λ c. search needs)
+    (λ c. search needs)
+    (λ c. search needs)
+    (λ c. search needs)
+    (λ c. search needs)
+    (λ c. search needs)
+    (λ c. search needs)
+    (λ c. search needs)
+    (λ c. search needs)
+    (λ c. search (needs, section-put)))

@@ -1,5 +1,6 @@
 use borrow.Author.Needs.{needs}
 use Prim.Native.Nat.{_-_, _≤_}
+use Rattle.limits.specs.Limits.{SECTION-BYTES}
 use Rattle.words.specs.Picked.{picked, Standing, picked-none, picked-more, picked-same}
 use Rattle.tables.proofs.Laws.{section-long, sections-end, sections-long}
 use Rattle.object.specs.Section.{loaded}
@@ -8,7 +9,7 @@ use Rattle.tables.proofs.sections.write_sections.Statement.{statement}
 use Rattle.tables.proofs.sections.write_sections.Tie as tie
 
 abbrev Inv-loop : tie.InvT-loop
-Inv-loop f h base starts undef b₀ m n₀ i₀ b n i = (i ≤ m) × Standing 64 (picked (loaded f h) (sectionWords f h base starts) i) b₀ b n i
+Inv-loop f h base starts undef b₀ m n₀ i₀ b n i = (i ≤ m) × Standing SECTION-BYTES (picked (loaded f h) (sectionWords f h (base .0) starts) i) b₀ b n i
 
 abbrev μ-loop : tie.MeasureT-loop
 μ-loop f h base starts undef b₀ m n₀ i₀ b n i = m - i

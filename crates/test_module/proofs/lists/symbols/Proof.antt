@@ -1,13 +1,13 @@
 use borrow.Author.Needs.{needs}
-use Prim.Native.Nat.{_-_, _≤_}
+use Prim.Native.Nat.{_+_, _-_, _≤_}
 use Rattle.test_module.proofs.lists.symbols.Statement.{statement}
 use Rattle.test_module.proofs.lists.symbols.Tie as tie
 
 abbrev Inv-loop : tie.InvT-loop
-Inv-loop f table n k₀ t5 t6 k = k ≤ n
+Inv-loop f table n k₀ k = k ≤ n + 1
 
 abbrev μ-loop : tie.MeasureT-loop
-μ-loop f table n k₀ t5 t6 k = n - k
+μ-loop f table n k₀ k = n + 1 - k
 
 pub symbols-spec : {M : Type 1} → statement M
 symbols-spec =
@@ -15,12 +15,6 @@ symbols-spec =
     (tie.spec
     Inv-loop
     μ-loop
-    (λ c. search needs)
-    (λ c. search needs)
-    (λ c. search needs)
-    (λ c. search needs)
-    (λ c. search needs)
-    (λ c. search needs)
     (λ c. search needs)
     (λ c. search needs)
     (λ c. search needs)

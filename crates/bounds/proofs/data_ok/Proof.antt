@@ -1,0 +1,15 @@
+use borrow.Author.Needs.{needs}
+use Rattle.bounds.proofs.Laws.{section-checks}
+use Rattle.bounds.proofs.data_ok.Statement.{statement}
+use Rattle.bounds.proofs.data_ok.Tie as tie
+
+pub data-ok-spec : {M : Type 1} → statement M
+data-ok-spec =
+    tie.close
+    (tie.spec
+    (λ c. search needs)
+    (λ c. search needs)
+    (λ c. search needs)
+    (λ c. search needs)
+    (λ c. search needs)
+    (λ c. search (needs, section-checks)))

@@ -1,0 +1,29 @@
+use borrow.Author.Needs.{needs}
+use Rattle.util.specs.Prefix.{all-loop, allTo}
+use Prim.Native.Nat.{_-_, _≤_}
+use mathlib.Core.Path.{_≡_}
+use mathlib.Core.Bool.{true}
+use Rattle.bounds.specs.Bounds.{sectionOk}
+use Rattle.bounds.proofs.each_section_ok.Statement.{statement}
+use Rattle.bounds.proofs.each_section_ok.Tie as tie
+
+abbrev Inv-loop : tie.InvT-loop
+Inv-loop f h n i₀ i = (i ≤ n) × (allTo (sectionOk f h) i ≡ true)
+
+abbrev μ-loop : tie.MeasureT-loop
+μ-loop f h n i₀ i = n - i
+
+pub each-section-ok-spec : {M : Type 1} → statement M
+each-section-ok-spec =
+    tie.close
+    (tie.spec
+    Inv-loop
+    μ-loop
+    (λ c. search (needs, all-loop))
+    (λ c. search (needs, all-loop))
+    (λ c. search (needs, all-loop))
+    (λ c. search (needs, all-loop))
+    (λ c. search (needs, all-loop))
+    (λ c. search (needs, all-loop))
+    (λ c. search (needs, all-loop))
+    (λ c. search (needs, all-loop)))

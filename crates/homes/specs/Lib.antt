@@ -1,0 +1,4 @@
+pub mod Home
+pub mod FirstLaws
+pub mod HomeLaws
+pub mod Listed

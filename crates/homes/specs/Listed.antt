@@ -1,0 +1,46 @@
+-- Which symbols are listed, and where (01, "Layout, slots and fixups"): those with a positive section number whose section has a home, in file
+-- order, at the home's start plus their value. `own` says which records are symbols' own, `home` where a section's home starts.
+use mathlib.Core.Bool.{Bool, true, false, _&&_}
+use mathlib.Core.List.{List}
+use Prim.Native.Nat.{ℕ, _+_}
+use Rattle.util.specs.Prefix.{countTo}
+use Rattle.arch.specs.declared.Offset.{Offset}
+use Rattle.arch.specs.declared.Offset.the-variants.{At, None}
+use Rattle.object.specs.declared.Header.{Header}
+use Rattle.kinds.specs.declared.Place.{Place}
+use Rattle.kinds.specs.declared.Place.the-variants.{In, Undefined, Common, Absolute, Nowhere, Other}
+use Rattle.object.specs.Symbol.{symbolPlace, listedValue}
+use Rattle.homes.specs.Home.{byNumber}
+
+-- what is found for the section of a place: `none` outside the sections
+unfoldable pub ofPlace : {A : Type 0} → (ℕ → A) → A → Place → A
+ofPlace of none (In n) = byNumber of none n
+ofPlace of none Undefined = none
+ofPlace of none Common = none
+ofPlace of none Absolute = none
+ofPlace of none Nowhere = none
+ofPlace of none Other = none
+
+-- where a place's home starts
+abbrev pub placeHome : (ℕ → Offset) → Place → Offset
+placeHome home p = ofPlace home None p
+
+abbrev pub isSome : Offset → Bool
+isSome (At o) = true
+isSome None = false
+
+-- symbol j is listed
+unfoldable pub listed : List ℕ → Header → (ℕ → Bool) → (ℕ → Offset) → ℕ → Bool
+listed f h own home j = own j && isSome (placeHome home (symbolPlace f h j))
+
+-- where a listed symbol is: behind its home's start, as far as its value says
+unfoldable pub offsetFrom : Offset → ℕ → ℕ
+offsetFrom (At o) value = o .0 + value
+offsetFrom None value = value
+
+abbrev pub listedOffset : List ℕ → Header → (ℕ → Offset) → ℕ → ℕ
+listedOffset f h home j = offsetFrom (placeHome home (symbolPlace f h j)) (listedValue f h j)
+
+-- how many there are
+abbrev pub listedTotal : List ℕ → Header → (ℕ → Bool) → (ℕ → Offset) → ℕ
+listedTotal f h own home = countTo (listed f h own home) (h .symbols)
