@@ -1,75 +1,16 @@
-// Refusals 6 to 8: names, section numbers and mapped pages; and 12, the base. A check is called only where those before it passed.
+// Refusals 7 and 8: section numbers and mapped pages; and 12, the base. A check is called only where those before it passed.
 use arch::VA;
 use kinds::Place;
 use object::Header;
 ghost use mathlib.Core.Path.{_≡_};
-ghost use Rattle.util.specs.Prefix.{allTo};
-ghost use Rattle.object.specs.Symbol.{auxiliariesLeft};
-ghost use Rattle.checks.specs.Checks.{baseOk, okAt, nameOk, numberOk, allSymbols, namesOk, numbersOk, pagesOk, sectionNameOk, placeWithin};
+ghost use Rattle.object.specs.Symbol.{auxiliariesLeft, okAt};
+ghost use Rattle.checks.specs.Checks.{baseOk, numberOk, numbersOk, pagesOk, placeWithin};
 
 // 12: the base is a page multiple and not too high.
 pub fn base_ok(base: VA) -> bool
     ensures { λ r. ⌜ r ≡ baseOk (base .0) ⌝ }
 {
     util::both(base.is_page_aligned(), base.0 <= limits::MAX_BASE)
-}
-
-fn section_name_ok(f: &[u8], h: Header, i: u32) -> bool
-    ensures { λ r. ⌜ r ≡ sectionNameOk (now (f .entry)) h i ⌝ }
-{
-    names::is_good(names::section_name(f, h, i))
-}
-
-fn name_ok(f: &[u8], h: Header, j: u32) -> bool
-    ensures { λ r. ⌜ r ≡ nameOk (now (f .entry)) h j ⌝ }
-{
-    names::is_good(names::symbol_name(f, h, j))
-}
-
-fn section_names_ok(f: &[u8], h: Header) -> bool
-    ensures { λ r. ⌜ r ≡ allTo (sectionNameOk (now (f .entry)) h) (h .sections) ⌝ }
-{
-    let n = h.sections as u32;
-    let mut i: u32 = 0;
-    while i < n {
-        if !section_name_ok(f, h, i) {
-            return false;
-        }
-        i += 1;
-    }
-    true
-}
-
-// Of a symbol's own record; `left` auxiliary ones stand from j on.
-fn name_ok_at(f: &[u8], h: Header, left: u8, j: u32) -> bool
-    requires { ⌜ left ≡ auxiliariesLeft (now f) h j ⌝ }
-    ensures { λ r. ⌜ r ≡ okAt nameOk (now (f .entry)) h j ⌝ }
-{
-    let own = left == 0;
-    if own { name_ok(f, h, j) } else { true }
-}
-
-fn symbol_names_ok(f: &[u8], h: Header) -> bool
-    ensures { λ r. ⌜ r ≡ allSymbols nameOk (now (f .entry)) h ⌝ }
-{
-    let n = h.symbols;
-    let mut left: u8 = 0;
-    let mut j: u32 = 0;
-    while j < n {
-        if !name_ok_at(f, h, left, j) {
-            return false;
-        }
-        left = object::left_after(f, h, j, left);
-        j += 1;
-    }
-    true
-}
-
-// 6: every section's name is good, and every symbol's.
-pub fn names_ok(f: &[u8], h: Header) -> bool
-    ensures { λ r. ⌜ r ≡ namesOk (now (f .entry)) h ⌝ }
-{
-    util::both(section_names_ok(f, h), symbol_names_ok(f, h))
 }
 
 fn place_within(n: u32, p: Place) -> bool

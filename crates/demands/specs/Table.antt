@@ -17,7 +17,8 @@ use Rattle.tables.specs.Externs.{externWords}
 use Rattle.lists.specs.Relocations.{fixWords}
 use Rattle.externs.specs.Externs.{externs, insertName, externRecords, externsTo}
 use Rattle.layout.specs.Layout.{undefStart, nextStart, startAt, startsTo}
-use Rattle.checks.specs.Checks.{baseOk, okAt, namesOk}
+use Rattle.good_names.specs.GoodNames.{namesOk}
+use Rattle.checks.specs.Checks.{baseOk}
 use Rattle.load.specs.Load.{Storage, loadChecks}
 use Rattle.demands.specs.Calls.{Call, patch, upFrom, appliedBy, applied}
 use Rattle.demands.specs.Origin.{fixupAt, slotValue, undefAddress, covers, latest, originBy, byteOf}
@@ -31,7 +32,7 @@ use Rattle.object.specs.Format.{headerOf, stringLength}
 use Rattle.kinds.specs.Types.{type32, type64, typeOf}
 use Rattle.object.specs.Section.{fileStart, fileEnd, rangeLength, extended, relocationRecords, relocationCount, relocationStart}
 use Rattle.kinds.specs.Flags.{loadedBy, alignOf, permissionsBy}
-use Rattle.object.specs.Symbol.{leftAfter, auxiliariesLeft, primary, isSymbol}
+use Rattle.object.specs.Symbol.{okAt, leftAfter, auxiliariesLeft, primary, isSymbol}
 use Rattle.kinds.specs.Symbol.{isFunction, codeOrData, staticKind, kindBy, zeroPlace, placeBy, listedBy}
 use Rattle.names.specs.Bytes.{run, goodSectionName, goodSymbolName, decimalTo, compareBytes, sameBytes}
 use Rattle.names.specs.Name.{nameBytes, longRun, symbolRun, slashRun, sectionRun, checked}

@@ -14,13 +14,16 @@ use lib.Seq.{drop-cons}
 use Rattle.util.specs.Pick.{pick, le-or-lt}
 use Rattle.le.specs.Le.{get, part, part-most}
 use Rattle.object.specs.declared.Header.{Header}
-use Rattle.object.specs.Format.{stringTable, stringLength}
+use Rattle.object.specs.Format.{NAME-SIZE, stringTable, stringLength}
 use Rattle.names.specs.declared.Order.{Order}
 use Rattle.names.specs.declared.Order.the-variants.{Less, Equal, Greater}
 use Rattle.names.specs.declared.Name.{Name}
 use Rattle.names.specs.declared.Name.the-variants.{Good, Bad}
 use Rattle.names.specs.Bytes.{run, visible, isDigit, goodSymbolName, goodSectionName, allVisible, allDigits, decimal, decimalTo, compareBytes, sameBytes}
-use Rattle.names.specs.Name.{longRun, symbolRun, slashRun, sectionRun, checked, nameBytes}
+use Rattle.names.specs.declared.Digits.{Digits}
+use Rattle.names.specs.declared.Digits.the-variants as digits
+use Rattle.names.specs.Name.{longRun, symbolRun, SLASH, slashOffset, slashBy, slashRun, sectionRun, checked, nameBytes}
+use Rattle.names.specs.NameLaws.{slash-is}
 
 left-suc : (i l : ℕ) → i < l → l - i ≡ suc (l - (i + 1))
 left-suc i l h = omega arith
@@ -184,28 +187,40 @@ module _ (f : List ℕ) (h : Header) where
     unfolding symbolRun pick
     symbol-empty r b e z q p = rw (← e, z, ← q, p)
 
-    pub symbol-short : (r b n : ℕ) → r ≡ get 4 f at → eqb r 0 ≡ false → b ≡ getD f at 0 → eqb b 0 ≡ false → n ≡ run f at 8 → Good at n ≡ symbolRun f h at
+    pub symbol-short : (r b n : ℕ) → r ≡ get 4 f at → eqb r 0 ≡ false → b ≡ getD f at 0 → eqb b 0 ≡ false → n ≡ run f at NAME-SIZE → Good at n ≡ symbolRun f h at
     unfolding symbolRun pick
     symbol-short r b n e z q p s = rw (← e, z, ← q, p, s)
 
-    module _ (n : ℕ) (ran : n ≡ run f at 8) where
-      pub slash-alone : n < 2 → Bad ≡ slashRun f h at
-      unfolding slashRun pick
+    module _ (n : ℕ) (ran : n ≡ run f at NAME-SIZE) where
+      pub slash-alone : n < 2 → digits.Bad ≡ slashOffset f at
+      unfolding slashOffset pick
       slash-alone k = rw (← ran, lt-leb 2 n k)
 
-      pub slash-digits : (x : Name) (s : List ℕ) (d : Bool) (o : ℕ) → 2 ≤ n → s ≡ part f (at + 1) (n - 1) → d ≡ allDigits s → d ≡ true → o ≡ decimal s → x ≡ longRun f h o → x ≡ slashRun f h at
-      unfolding slashRun pick
-      slash-digits x s d o k e q t p r = rw (← ran, ← e, ← q, ← p, le-leb 2 n k, t) r
+      pub slash-digits : (s : List ℕ) (d : Bool) (o : ℕ) → 2 ≤ n → s ≡ part f (at + 1) (n - 1) → d ≡ allDigits s → d ≡ true → o ≡ decimal s → digits.Offset o ≡ slashOffset f at
+      unfolding slashOffset pick
+      slash-digits s d o k e q t p = rw (← ran, ← e, ← q, ← p, le-leb 2 n k, t)
 
-      pub slash-other : (s : List ℕ) (d : Bool) → 2 ≤ n → s ≡ part f (at + 1) (n - 1) → d ≡ allDigits s → d ≡ false → Bad ≡ slashRun f h at
-      unfolding slashRun pick
+      pub slash-other : (s : List ℕ) (d : Bool) → 2 ≤ n → s ≡ part f (at + 1) (n - 1) → d ≡ allDigits s → d ≡ false → digits.Bad ≡ slashOffset f at
+      unfolding slashOffset pick
       slash-other s d k e q t = rw (← ran, ← e, ← q, le-leb 2 n k, t)
 
-    pub section-slash : (x : Name) (b : ℕ) → b ≡ getD f at 0 → eqb b 0x2F ≡ true → x ≡ slashRun f h at → x ≡ sectionRun f h at
+    module _ (d : Digits) (is : d ≡ slashOffset f at) where
+      pub slash-at : (k : ℕ) → at ≡ k → d ≡ slashOffset f k
+      slash-at k e = rw (← e) is
+
+      pub slash-long : (x : Name) (o : ℕ) → d ≡ digits.Offset o → x ≡ longRun f h o → x ≡ slashRun f h at
+      unfolding slashBy
+      slash-long x o e r = rw (slash-is f h at, ← is, e) r
+
+      pub slash-bad : d ≡ digits.Bad → Bad ≡ slashRun f h at
+      unfolding slashBy
+      slash-bad e = rw (slash-is f h at, ← is, e)
+
+    pub section-slash : (x : Name) (b : ℕ) → b ≡ getD f at 0 → eqb b SLASH ≡ true → x ≡ slashRun f h at → x ≡ sectionRun f h at
     unfolding sectionRun pick
     section-slash x b e t p = rw (← e, t) p
 
-    pub section-short : (b n : ℕ) → b ≡ getD f at 0 → eqb b 0x2F ≡ false → n ≡ run f at 8 → Good at n ≡ sectionRun f h at
+    pub section-short : (b n : ℕ) → b ≡ getD f at 0 → eqb b SLASH ≡ false → n ≡ run f at NAME-SIZE → Good at n ≡ sectionRun f h at
     unfolding sectionRun pick
     section-short b n e t q = rw (← e, t, q)
 
@@ -216,7 +231,7 @@ pub ruleset long-ways = (long-low, long-past, long-good, long-open)
 
 pub ruleset symbol-ways = (symbol-long, symbol-empty, symbol-short)
 
-pub ruleset slash-ways = (digits-few, slash-alone, slash-digits, slash-other)
+pub ruleset slash-ways = (digits-few, slash-alone, slash-digits, slash-other, slash-long, slash-bad, slash-at)
 
 pub ruleset section-name-ways = (section-slash, section-short)
 

@@ -10,6 +10,8 @@ use Rattle.object.specs.declared.Header.{Header}
 use Rattle.object.specs.Format.{NAME-SIZE, LENGTH-SIZE, sectionHeaderAt, symbolRecordAt, stringTable, stringLength}
 use Rattle.names.specs.declared.Name.{Name}
 use Rattle.names.specs.declared.Name.the-variants.{Good, Bad}
+use Rattle.names.specs.declared.Digits.{Digits}
+use Rattle.names.specs.declared.Digits.the-variants as digits
 use Rattle.names.specs.Bytes.{run, goodSectionName, goodSymbolName, allDigits, decimal}
 
 -- the bytes of a name: that part of the file; of a bad one none
@@ -39,6 +41,13 @@ SLASH = 0x2F
 
 abbrev pub slashDigits : List ℕ → ℕ → List ℕ
 slashDigits f at = part f (at + 1) (run f at NAME-SIZE - 1)
+
+unfoldable pub slashOffset : List ℕ → ℕ → Digits
+slashOffset f at = pick (leb 2 (run f at NAME-SIZE) && allDigits (slashDigits f at)) (digits.Offset (decimal (slashDigits f at))) digits.Bad
+
+unfoldable pub slashBy : List ℕ → Header → Digits → Name
+slashBy f h (digits.Offset o) = longRun f h o
+slashBy f h digits.Bad = Bad
 
 unfoldable pub slashRun : List ℕ → Header → ℕ → Name
 slashRun f h at = pick (leb 2 (run f at NAME-SIZE) && allDigits (slashDigits f at)) (longRun f h (decimal (slashDigits f at))) Bad

@@ -17,7 +17,8 @@ use Rattle.object.specs.Format.{NAME-SIZE, sectionHeaderAt, symbolRecordAt, str
 use Rattle.names.specs.declared.Name.{Name}
 use Rattle.names.specs.declared.Name.the-variants.{Good, Bad}
 use Rattle.names.specs.Bytes.{run, visible, allVisible, goodSectionName, goodSymbolName, allDigits, decimal}
-use Rattle.names.specs.Name.{nameBytes, shortRun, longRun, symbolRun, slashRun, slashDigits, sectionRun, checked, sectionNameAt, symbolNameAt, sectionName, symbolName, SLASH}
+use Rattle.names.specs.declared.Digits.the-variants as digits
+use Rattle.names.specs.Name.{nameBytes, shortRun, longRun, symbolRun, slashRun, slashOffset, slashBy, slashDigits, sectionRun, checked, sectionNameAt, symbolNameAt, sectionName, symbolName, SLASH}
 
 -- ---- where a run ends
 -- one more byte: a zero ends the run, any other is passed
@@ -256,3 +257,13 @@ module _ (f : List ℕ) (h : Header) (field at n : ℕ) where
       (λ l. long-found (get 4 f (field + 4)) l)
       (λ s. either (eqb (getD f field 0) 0) Bad (shortRun f field) (λ b. bad-found b) (λ k. short-found k) s)
       (checked-is goodSymbolName f (symbolRun f h field) at n e)
+
+-- a section's that begins with a slash goes by the offset
+slash-picked : (f : List ℕ) (h : Header) (c : Bool) (o : ℕ) → pick c (longRun f h o) Bad ≡ slashBy f h (pick c (digits.Offset o) digits.Bad)
+unfolding pick slashBy
+slash-picked f h true o = refl
+slash-picked f h false o = refl
+
+pub slash-is : (f : List ℕ) (h : Header) (at : ℕ) → slashRun f h at ≡ slashBy f h (slashOffset f at)
+unfolding slashRun slashOffset
+slash-is f h at = slash-picked f h (leb 2 (run f at NAME-SIZE) && allDigits (slashDigits f at)) (decimal (slashDigits f at))

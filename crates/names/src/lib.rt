@@ -2,21 +2,30 @@
 mod place;
 mod text;
 
+pub use place::SLASH;
 pub use place::is_good;
 pub use place::name_bytes;
 pub use place::section_name;
 pub use place::section_text;
+pub use place::slash_offset;
 pub use place::symbol_name;
 pub use place::symbol_text;
 pub use text::compare;
 pub use text::good_section_name;
 pub use text::good_symbol_name;
 pub use text::is_undef;
+pub use text::is_visible;
 pub use text::same;
 
 // Where a good name starts in the file, and how long it is.
 pub enum Name {
     Good(usize, usize),
+    Bad,
+}
+
+// The offset that the digits behind a slash say.
+pub enum Digits {
+    Offset(u64),
     Bad,
 }
 

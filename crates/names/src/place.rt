@@ -1,4 +1,5 @@
 // Names in the records and in the string table.
+use crate::Digits;
 use crate::Name;
 use crate::text::all_digits;
 use crate::text::decimal;
@@ -8,10 +9,12 @@ use crate::text::run;
 use object::Header;
 ghost use mathlib.Core.Path.{_≡_};
 ghost use Prim.Native.Nat.{_<_, _^_};
+ghost use Rattle.object.specs.Format.{sectionHeaderAt};
 ghost use Rattle.names.specs.Bytes.{goodSectionName, goodSymbolName};
 ghost use Rattle.names.specs.Name.{
   longRun,
   symbolRun,
+  slashOffset,
   slashRun,
   sectionRun,
   checked,
@@ -23,7 +26,8 @@ ghost use Rattle.names.specs.Name.{
   symbolText,
 };
 
-const SLASH: u8 = 0x2F;
+// What a section's name begins with that stands in the string table.
+pub const SLASH: u8 = 0x2F;
 
 // The part of the string table at `offset`, up to a zero that lies within the table.
 fn long_run(f: &[u8], h: Header, offset: u64) -> Name
@@ -63,19 +67,36 @@ fn symbol_run(f: &[u8], h: Header, at: usize) -> Name
 }
 
 // A slash and one to seven digits: the offset of the name in the string table.
+fn offset_at(f: &[u8], at: usize) -> Digits
+    requires { ⌜ at < 2 ^ 38 ⌝ }
+    ensures { λ r. ⌜ r ≡ slashOffset (now (f .entry)) at ⌝ }
+{
+    let n = run(f, at, object::NAME_SIZE);
+    if n < 2 {
+        return Digits::Bad;
+    }
+    let digits = le::part(f, at + 1, n - 1);
+    if all_digits(digits) {
+        Digits::Offset(decimal(digits))
+    } else {
+        Digits::Bad
+    }
+}
+
+// Of section i, whose name begins with a slash.
+pub fn slash_offset(f: &[u8], h: Header, i: u32) -> Digits
+    ensures { λ r. ⌜ r ≡ slashOffset (now (f .entry)) (sectionHeaderAt h i) ⌝ }
+{
+    offset_at(f, object::section_header_at(h, i))
+}
+
 fn slash_run(f: &[u8], h: Header, at: usize) -> Name
     requires { ⌜ at < 2 ^ 38 ⌝ }
     ensures { λ r. ⌜ r ≡ slashRun (now (f .entry)) h at ⌝ }
 {
-    let n = run(f, at, object::NAME_SIZE);
-    if n < 2 {
-        return Name::Bad;
-    }
-    let digits = le::part(f, at + 1, n - 1);
-    if all_digits(digits) {
-        long_run(f, h, decimal(digits))
-    } else {
-        Name::Bad
+    match offset_at(f, at) {
+        Digits::Offset(o) => long_run(f, h, o),
+        Digits::Bad => Name::Bad,
     }
 }
 

@@ -33,7 +33,8 @@ pub(crate) fn run(f: &[u8], at: usize, n: usize) -> usize
     k
 }
 
-fn is_visible(b: u8) -> bool
+// A byte that a name may have.
+pub fn is_visible(b: u8) -> bool
     ensures { λ r. ⌜ r ≡ visible b ⌝ }
 {
     util::both(0x21 <= b, b <= 0x7E)

@@ -1,5 +1,5 @@
 -- What a symbol record says (01, "Records"; PE/COFF, "COFF Symbol Table").
-use mathlib.Core.Bool.{Bool, _&&_}
+use mathlib.Core.Bool.{Bool, _&&_, _||_, not}
 use mathlib.Core.List.{List}
 use Prim.Native.Nat.{ℕ, zero, suc, _-_}
 use lib.IntN.{ℤ}
@@ -8,7 +8,7 @@ use lib.ListN.{getD}
 use mir.Syntax.{w16}
 use mir.Val.{toZ}
 use Rattle.util.specs.Pick.{pick}
-use Rattle.util.specs.Prefix.{listTo}
+use Rattle.util.specs.Prefix.{allTo, listTo}
 use Rattle.kinds.specs.declared.SymbolKind.{SymbolKind}
 use Rattle.kinds.specs.declared.Place.{Place}
 use Rattle.kinds.specs.Symbol.{kindBy, placeBy, listedBy}
@@ -54,3 +54,10 @@ primaries f h n = listTo (λ j. pick (primary f h j) 1 0) n
 -- number j is a symbol's, by those bytes (`own-kept`)
 abbrev pub isOwn : List ℕ → ℕ → Bool
 isOwn own j = eqb (getD own j 0) 1
+
+-- a test of every symbol, by its own record
+unfoldable pub okAt : (List ℕ → Header → ℕ → Bool) → List ℕ → Header → ℕ → Bool
+okAt ok f h j = not (primary f h j) || ok f h j
+
+abbrev pub allSymbols : (List ℕ → Header → ℕ → Bool) → List ℕ → Header → Bool
+allSymbols ok f h = allTo (okAt ok f h) (h .symbols)

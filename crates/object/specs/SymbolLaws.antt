@@ -14,7 +14,7 @@ use Rattle.util.specs.Pick.{pick, yes-no, le-or-lt}
 use Rattle.util.specs.Prefix.{list-at, list-past}
 use Rattle.object.specs.declared.Header.{Header}
 use Rattle.object.specs.Format.{auxiliaries}
-use Rattle.object.specs.Symbol.{leftAfter, auxiliariesLeft, primary, primaries, isOwn, isSymbol}
+use Rattle.object.specs.Symbol.{leftAfter, auxiliariesLeft, primary, primaries, isOwn, isSymbol, okAt}
 
 -- ---- as a loop counts what is left: at the first record, one record further, and at the end
 pub left-none : (f : List ℕ) (h : Header) → 0 ≡ auxiliariesLeft f h 0
@@ -161,3 +161,15 @@ module _ (f : List ℕ) (h : Header) where
       ⊎-elim (λ q. rw (le-ltb j (h .symbols) q, list-past {A = ℕ} (λ k. pick (primary f h k) 1 0) 0 (h .symbols) j q))
       (λ q. rw (lt-ltb j (h .symbols) q) (own-in (h .symbols) j q))
       (le-or-lt (h .symbols) j))
+
+-- a test of a symbol by its own record, where `left` auxiliary ones stand from j on
+module _ (ok : List ℕ → Header → ℕ → Bool) (f : List ℕ) (h : Header) (j left : ℕ) (is : left ≡ auxiliariesLeft f h j) where
+  pub at-own : (r : Bool) → eqb left 0 ≡ true → r ≡ ok f h j → r ≡ okAt ok f h j
+  unfolding okAt primary
+  at-own r z e = rw (← is, z) e
+
+  pub at-other : eqb left 0 ≡ false → true ≡ okAt ok f h j
+  unfolding okAt primary
+  at-other z = rw (← is, z)
+
+pub ruleset own-ways = (at-own, at-other)

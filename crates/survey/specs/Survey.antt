@@ -17,7 +17,8 @@ use Rattle.homes.specs.Home.{sectionHome}
 use Rattle.homes.specs.Listed.{listedTotal}
 use Rattle.limits.specs.Limits.{MAX-EXTERNS}
 use Rattle.bounds.specs.Bounds.{sizeOk, machineOk, sectionTableOk, symbolTableOk, sectionsOk, relocationTotal}
-use Rattle.checks.specs.Checks.{namesOk, numbersOk, pagesOk}
+use Rattle.good_names.specs.GoodNames.{namesOk}
+use Rattle.checks.specs.Checks.{numbersOk, pagesOk}
 use Rattle.externs.specs.declared.Found.{Found}
 use Rattle.externs.specs.Externs.{externs}
 use Rattle.externs.specs.Slot.{slotOf}

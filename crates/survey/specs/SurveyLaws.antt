@@ -13,7 +13,8 @@ use Rattle.object.specs.Format.{headerOf}
 use Rattle.layout.specs.Layout.{mappedPages}
 use Rattle.limits.specs.Limits.{MAX-SECTIONS, MAX-SYMBOLS, MAX-PAGES}
 use Rattle.bounds.specs.Bounds.{sizeOk, machineOk, sectionTableOk, symbolTableOk, sectionsOk}
-use Rattle.checks.specs.Checks.{namesOk, numbersOk, pagesOk}
+use Rattle.good_names.specs.GoodNames.{namesOk}
+use Rattle.checks.specs.Checks.{numbersOk, pagesOk}
 use Rattle.survey.specs.declared.answer.Counts.{Counts}
 use Rattle.survey.specs.declared.answer.Survey.the-variants.{Accepted, Refused}
 use Rattle.survey.specs.Survey.{Check, check, firstFailed, recordChecks, answerBy}

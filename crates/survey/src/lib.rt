@@ -37,7 +37,7 @@ pub fn records_code(f: &[u8], h: Header) -> u64
     if !bounds::sections_ok(f, h) {
         return refusal::SECTION_DATA;
     }
-    if !checks::names_ok(f, h) {
+    if !good_names::names_ok(f, h) {
         return refusal::NAME;
     }
     if !checks::numbers_ok(f, h) {

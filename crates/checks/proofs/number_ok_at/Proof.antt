@@ -1,5 +1,5 @@
 use borrow.Author.Needs.{needs}
-use Rattle.checks.proofs.Laws.{own-ways}
+use Rattle.object.specs.SymbolLaws.{own-ways}
 use Rattle.checks.proofs.number_ok_at.Statement.{statement}
 use Rattle.checks.proofs.number_ok_at.Tie as tie
 

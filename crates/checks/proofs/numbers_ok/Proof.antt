@@ -3,9 +3,9 @@ use Rattle.util.specs.Prefix.{all-loop, allTo, all-again}
 use Prim.Native.Nat.{_-_, _≤_}
 use mathlib.Core.Path.{_≡_}
 use mathlib.Core.Bool.{true}
-use Rattle.object.specs.Symbol.{auxiliariesLeft}
+use Rattle.object.specs.Symbol.{auxiliariesLeft, okAt}
 use Rattle.object.specs.SymbolLaws.{left-none, left-again}
-use Rattle.checks.specs.Checks.{okAt, numberOk}
+use Rattle.checks.specs.Checks.{numberOk}
 use Rattle.checks.proofs.numbers_ok.Statement.{statement}
 use Rattle.checks.proofs.numbers_ok.Tie as tie
 

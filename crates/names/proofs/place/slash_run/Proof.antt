@@ -12,8 +12,4 @@ slash-run-spec =
     (λ c. search (needs, slash-ways))
     (λ c. search (needs, slash-ways))
     (λ c. search (needs, slash-ways))
-    (λ c. search (needs, slash-ways))
-    (λ c. search (needs, slash-ways))
-    (λ c. search (needs, slash-ways))
-    (λ c. search (needs, slash-ways))
     (λ c. search (needs, slash-ways)))

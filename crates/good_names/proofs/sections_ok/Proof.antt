@@ -3,18 +3,18 @@ use Rattle.util.specs.Prefix.{all-loop, allTo}
 use Prim.Native.Nat.{_-_, _≤_}
 use mathlib.Core.Path.{_≡_}
 use mathlib.Core.Bool.{true}
-use Rattle.checks.specs.Checks.{sectionNameOk}
-use Rattle.checks.proofs.section_names_ok.Statement.{statement}
-use Rattle.checks.proofs.section_names_ok.Tie as tie
+use Rattle.good_names.specs.GoodNames.{sectionNameOk}
+use Rattle.good_names.proofs.sections_ok.Statement.{statement}
+use Rattle.good_names.proofs.sections_ok.Tie as tie
 
 abbrev Inv-loop : tie.InvT-loop
-Inv-loop f h n i₀ i = (i ≤ n) × (allTo (sectionNameOk f h) i ≡ true)
+Inv-loop f h t stops blocks n i₀ i = (i ≤ n) × (allTo (sectionNameOk f h) i ≡ true)
 
 abbrev μ-loop : tie.MeasureT-loop
-μ-loop f h n i₀ i = n - i
+μ-loop f h t stops blocks n i₀ i = n - i
 
-pub section-names-ok-spec : {M : Type 1} → statement M
-section-names-ok-spec =
+pub sections-ok-spec : {M : Type 1} → statement M
+sections-ok-spec =
     tie.close
     (tie.spec
     Inv-loop

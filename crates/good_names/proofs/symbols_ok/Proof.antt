@@ -5,18 +5,19 @@ use mathlib.Core.Path.{_≡_}
 use mathlib.Core.Bool.{true}
 use Rattle.object.specs.Symbol.{auxiliariesLeft}
 use Rattle.object.specs.SymbolLaws.{left-none, left-again}
-use Rattle.checks.specs.Checks.{okAt, nameOk}
-use Rattle.checks.proofs.symbol_names_ok.Statement.{statement}
-use Rattle.checks.proofs.symbol_names_ok.Tie as tie
+use Rattle.object.specs.Symbol.{okAt}
+use Rattle.good_names.specs.GoodNames.{nameOk}
+use Rattle.good_names.proofs.symbols_ok.Statement.{statement}
+use Rattle.good_names.proofs.symbols_ok.Tie as tie
 
 abbrev Inv-loop : tie.InvT-loop
-Inv-loop f h n left₀ j₀ left j = (j ≤ n) × (left ≡ auxiliariesLeft f h j) × (allTo (okAt nameOk f h) j ≡ true)
+Inv-loop f h t stops blocks n left₀ j₀ left j = (j ≤ n) × (left ≡ auxiliariesLeft f h j) × (allTo (okAt nameOk f h) j ≡ true)
 
 abbrev μ-loop : tie.MeasureT-loop
-μ-loop f h n left₀ j₀ left j = n - j
+μ-loop f h t stops blocks n left₀ j₀ left j = n - j
 
-pub symbol-names-ok-spec : {M : Type 1} → statement M
-symbol-names-ok-spec =
+pub symbols-ok-spec : {M : Type 1} → statement M
+symbols-ok-spec =
     tie.close
     (tie.spec
     Inv-loop

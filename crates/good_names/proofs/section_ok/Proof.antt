@@ -1,0 +1,17 @@
+use borrow.Author.Needs.{needs}
+use Rattle.good_names.proofs.Names.{ways}
+use Rattle.good_names.proofs.section_ok.Statement.{statement}
+use Rattle.good_names.proofs.section_ok.Tie as tie
+
+pub section-ok-spec : {M : Type 1} → statement M
+section-ok-spec =
+    tie.close
+    (tie.spec
+    (λ c. search needs)
+    (λ c. search needs)
+    (λ c. search needs)
+    (λ c. search needs)
+    (λ c. search needs)
+    (λ c. search needs)
+    (λ c. search (needs, ways))
+    (λ c. search (needs, ways)))

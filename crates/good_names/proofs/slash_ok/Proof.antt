@@ -1,0 +1,16 @@
+use borrow.Author.Needs.{needs}
+use Rattle.good_names.proofs.Names.{ways}
+use Rattle.good_names.proofs.slash_ok.Statement.{statement}
+use Rattle.good_names.proofs.slash_ok.Tie as tie
+
+pub slash-ok-spec : {M : Type 1} → statement M
+slash-ok-spec =
+    tie.close
+    (tie.spec
+    (λ c. search needs)
+    (λ c. search needs)
+    (λ c. search needs)
+    (λ c. search needs)
+    (λ c. search needs)
+    (λ c. search (needs, ways))
+    (λ c. search (needs, ways)))

@@ -1,0 +1,21 @@
+use borrow.Author.Needs.{needs}
+use Rattle.good_names.proofs.Names.{ways}
+use Rattle.good_names.proofs.symbol_ok.Statement.{statement}
+use Rattle.good_names.proofs.symbol_ok.Tie as tie
+
+pub symbol-ok-spec : {M : Type 1} → statement M
+symbol-ok-spec =
+    tie.close
+    (tie.spec
+    (λ c. search needs)
+    (λ c. search needs)
+    (λ c. search needs)
+    (λ c. search needs)
+    (λ c. search needs)
+    (λ c. search needs)
+    (λ c. search needs)
+    (λ c. search needs)
+    (λ c. search needs)
+    (λ c. search needs)
+    (λ c. search (needs, ways))
+    (λ c. search (needs, ways)))
