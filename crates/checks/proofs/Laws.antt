@@ -1,9 +1,9 @@
 -- The ways through the checks. Assumes nothing.
-use mathlib.Core.Path.{_≡_, sym, _∙_}
-use mathlib.Core.Bool.{Bool, true, false, _&&_, not}
+use mathlib.Core.Path.{_≡_}
+use mathlib.Core.Bool.{Bool, _&&_}
 use mathlib.Core.List.{List}
-use Prim.Native.Nat.{ℕ, _%_}
-use lib.Dec.{leb, eqb}
+use Prim.Native.Nat.{ℕ}
+use lib.Dec.{leb}
 use Rattle.limits.specs.Limits.{MAX-PAGES, MAX-BASE}
 use Rattle.arch.specs.Page.{onPage}
 use Rattle.object.specs.declared.Header.{Header}

@@ -2,8 +2,8 @@
 -- check is asked only where those before it passed; past the file a record reads as zeros.
 use mathlib.Core.Bool.{Bool, true, _&&_}
 use mathlib.Core.List.{List}
-use Prim.Native.Nat.{ℕ, _%_}
-use lib.Dec.{leb, eqb}
+use Prim.Native.Nat.{ℕ}
+use lib.Dec.{leb}
 use Rattle.limits.specs.Limits.{MAX-PAGES, MAX-BASE}
 use Rattle.arch.specs.Page.{onPage}
 use Rattle.object.specs.declared.Header.{Header}

@@ -121,7 +121,7 @@ unfolding pick
 good-pick true at n = refl
 good-pick false at n = refl
 
-pub good-run : (good : List ℕ → Bool) (f : List ℕ) (c : Bool) (at n : ℕ) → isGood (checked good f (pick c (Good at n) Bad)) ≡ (c && good (part f at n))
+good-run : (good : List ℕ → Bool) (f : List ℕ) (c : Bool) (at n : ℕ) → isGood (checked good f (pick c (Good at n) Bad)) ≡ (c && good (part f at n))
 unfolding pick checked
 good-run good f true at n = good-pick (good (part f at n)) at n
 good-run good f false at n = refl

@@ -29,7 +29,7 @@ use Rattle.tables.specs.Sections.{sectionTable}
 use Rattle.symbol_table.specs.Symbols.{symbolTable}
 use Rattle.tables.specs.Externs.{externTable}
 use Rattle.image.specs.Laid.{laid}
-use Rattle.marks.specs.Marks.{WORD-BYTES, WORD-PAGES, wordsFor, markBytes}
+use Rattle.marks.specs.Marks.{WORD-BYTES, wordsFor, markBytes}
 use Rattle.load.specs.Load.{Storage, lengthsOf, layoutRoom, listsRoom, roomFor, storedBy, stored, loadChecks, loadAnswer, LoadIs, Loads}
 use Rattle.limits.specs.Limits.{MAX-SECTIONS, MAX-SYMBOLS, MAX-PAGES, MAX-EXTERNS, SECTION-BYTES, SYMBOL-BYTES, EXTERN-BYTES, FIXUP-BYTES, SKIP-BYTES, EXTERN-ROOM}
 use Rattle.arch.specs.Page.{PAGE-SIZE}
@@ -46,9 +46,9 @@ use Rattle.survey.specs.declared.answer.Survey.the-variants as survey
 use Rattle.survey.specs.declared.answer.Survey.the-variants.{Accepted}
 use Rattle.load.specs.declared.answer.Load.{Load}
 use Rattle.load.specs.declared.answer.Load.the-variants.{Loaded, Refused}
-use Rattle.survey.specs.Survey.{Check, check, firstFailed, recordChecks, externChecks, targetChecks, checks, counts, tally, tallyBy, countsBy, answerBy}
+use Rattle.survey.specs.Survey.{Check, check, firstFailed, recordChecks, externChecks, targetChecks, checks, counts, tally, tallyBy, answerBy}
 use Rattle.survey.specs.Surveying.{Fits, plannedBy}
-use Rattle.survey.specs.SurveyLaws.{check-holds, checks-hold, failed-first, Ordered, ordered, records-rest, tells-accepted, tells-refused, fits-is}
+use Rattle.survey.specs.SurveyLaws.{check-holds, checks-hold, failed-first, Ordered, ordered, records-rest, fits-is}
 use Rattle.load.specs.LoadLaws.{load-says-refused}
 use Rattle.checks.specs.Checks.{pagesOk, baseOk}
 use Rattle.object.specs.Format.{headerOf}
@@ -138,15 +138,6 @@ stored-is a f h base own home slots start undef pages n i i′ m m′ s s′ y y
     let u : undef ≡ undefStart f h = omega arith in
     let p : pages ≡ mappedPages f h = omega arith in
     rw (l .image, l .marks, l .sections, w .symbols, w .externs, b .fixes, b .skips, machine, p, begins, u, names)
-
--- what the parts of the writing ask
-pub few-sections : (f : List ℕ) (h : Header) (slots : List ℕ) → Limits f h slots → h .sections ≤ MAX-SECTIONS
-few-sections f h slots k = k .sections
-
-pub few-names : (f : List ℕ) (h : Header) (slots : List ℕ) → Limits f h slots → length slots < 2 ^ 32
-few-names f h slots k = omega (arith, k .names)
-
-pub ruleset storing = (few-sections, few-names)
 
 -- ---- 13 behind survey's answer
 module _ (s : Survey) (l : Lengths) (n : ℕ) where

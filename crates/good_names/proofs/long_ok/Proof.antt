@@ -1,6 +1,5 @@
 use borrow.Author.Needs.{needs}
 use Rattle.good_names.proofs.Laws.{filled-ask, long-is}
-use Rattle.good_names.proofs.Names.{good-run}
 use Rattle.good_names.proofs.long_ok.Statement.{statement}
 use Rattle.good_names.proofs.long_ok.Tie as tie
 

@@ -1,5 +1,4 @@
 use borrow.Author.Needs.{needs}
-use Rattle.load.proofs.Laws.{storing}
 use Rattle.load.proofs.Laws.{stored-is}
 use mathlib.Core.Path.{refl}
 use Rattle.load.proofs.write_all.Statement.{statement}
