@@ -44,17 +44,23 @@ static struct storage {
 
 static const struct nelgrauf_counts want = { 3, 2, 1, 1, 1, 0, 0, 1, 2, 1 };
 
-static uint64_t load(uint64_t base, size_t image_bytes, size_t counts_bytes)
+static uint64_t load_part(size_t file_bytes, uint64_t base, size_t image_bytes, size_t counts_bytes)
 {
-    return nelgrauf_load(object, sizeof object, base, s.image, image_bytes, s.marks, sizeof s.marks, s.sections, sizeof s.sections,
+    return nelgrauf_load(object, file_bytes, base, s.image, image_bytes, s.marks, sizeof s.marks, s.sections, sizeof s.sections,
                          s.symbols, sizeof s.symbols, s.externs, sizeof s.externs, s.fixups, sizeof s.fixups, s.skips, sizeof s.skips,
                          s.counts, counts_bytes);
+}
+
+static uint64_t load(uint64_t base, size_t image_bytes, size_t counts_bytes)
+{
+    return load_part(sizeof object, base, image_bytes, counts_bytes);
 }
 
 static void surveys(void)
 {
     EXPECT(nelgrauf_survey(object, sizeof object, s.counts, 79) == NELGRAUF_STORAGE);
     EXPECT(nelgrauf_survey(object, 19, s.counts, sizeof s.counts) == NELGRAUF_FILE_SIZE);
+    EXPECT(nelgrauf_survey(object, 19, s.counts, 79) == NELGRAUF_FILE_SIZE);
     EXPECT(memcmp(&s, &before, sizeof s) == 0);
     EXPECT(nelgrauf_survey(object, sizeof object, s.counts, sizeof s.counts) == NELGRAUF_DONE);
     EXPECT(memcmp(s.counts, &want, sizeof want) == 0);
@@ -65,7 +71,10 @@ static void loads(void)
 {
     s = before;
     EXPECT(load(BASE, sizeof s.image, 79) == NELGRAUF_STORAGE);
-    EXPECT(load(BASE + 1, sizeof s.image, 79) == NELGRAUF_STORAGE);
+    EXPECT(load(BASE, 0, 79) == NELGRAUF_STORAGE);
+    EXPECT(load(BASE + 1, sizeof s.image, 79) == NELGRAUF_BASE);
+    EXPECT(load_part(19, BASE + 1, sizeof s.image, 79) == NELGRAUF_BASE);
+    EXPECT(load_part(19, BASE, sizeof s.image, 79) == NELGRAUF_FILE_SIZE);
     EXPECT(load(BASE + 1, 0, sizeof s.counts) == NELGRAUF_BASE);
     EXPECT(load(BASE, 3 * NELGRAUF_PAGE - 1, sizeof s.counts) == NELGRAUF_STORAGE);
     EXPECT(memcmp(&s, &before, sizeof s) == 0);
@@ -110,6 +119,9 @@ static void patches(void)
     struct nelgrauf_progress p = { 77, 88 };
     EXPECT(patch(all, 1, 0, &p, 15) == NELGRAUF_STORAGE);
     EXPECT(patch(all, 1, 2, &p, sizeof p) == NELGRAUF_POSITION);
+    EXPECT(patch(all, 1, 2, &p, 15) == NELGRAUF_POSITION);
+    EXPECT(patch(all - 1, 1, 2, &p, 15) == NELGRAUF_POSITION);
+    EXPECT(patch(0, 1, 0, &p, 15) == NELGRAUF_STORAGE);
     EXPECT(patch(all - 1, 1, 0, &p, sizeof p) == NELGRAUF_STORAGE);
     EXPECT(patch(0, 1, 0, &p, sizeof p) == NELGRAUF_NOT_MAPPED);
     EXPECT(p.position == 77 && p.done == 88);

@@ -2,9 +2,9 @@
  *
  * Every function answers 0, or the number of a refusal (enum nelgrauf_refusal), and then nothing lent has changed.
  * A lent buffer is a pointer and its length in bytes. The pointer is never null, not even for length 0, and no buffer that a call
- * may write overlaps another buffer of the same call. The functions keep no state, allocate nothing, and take no alignment for
+ * may write (`restrict`) overlaps another buffer of the same call. The functions keep no state, allocate nothing, and take no alignment for
  * granted; calls on different storage may run at the same time. They are for x86-64 only, so that a record of words, low byte first, is a
- * struct of 64-bit numbers. The header is C11. */
+ * struct of 64-bit numbers. The header is C11, and C++11. */
 #ifndef NELGRAUF_H
 #define NELGRAUF_H
 
@@ -14,6 +14,18 @@
 #if !defined(__x86_64__)
 #error "libstation.a is compiled for x86-64"
 #endif
+
+/* What C and C++ say differently. */
+#ifdef __cplusplus
+#define NELGRAUF_RESTRICT __restrict
+#define NELGRAUF_ASSERT static_assert
+#else
+#define NELGRAUF_RESTRICT restrict
+#define NELGRAUF_ASSERT _Static_assert
+#endif
+
+/* The most bytes that a file may have. */
+#define NELGRAUF_MAX_FILE 4194304u
 
 /* Bytes of a page. */
 #define NELGRAUF_PAGE 4096u
@@ -59,6 +71,14 @@ enum nelgrauf_permission {
     NELGRAUF_READ = 1,    /* it may be read */
     NELGRAUF_WRITE = 2,   /* it may be written */
     NELGRAUF_EXECUTE = 4  /* it may be executed */
+};
+
+/* Why a relocation was skipped; the first that holds. */
+enum nelgrauf_skip_reason {
+    NELGRAUF_NO_SYMBOL = 1,    /* no record of that symbol number */
+    NELGRAUF_NO_HOME = 2,      /* the symbol's section has no home */
+    NELGRAUF_NO_SLOT = 3,      /* no slot for the symbol's name */
+    NELGRAUF_UNKNOWN_TYPE = 4  /* the machine has no such type */
 };
 
 /* How much load needs, and the file's own numbers. */
@@ -116,7 +136,7 @@ struct nelgrauf_fixup {
 struct nelgrauf_skip {
     uint64_t section; /* section number, from 1 */
     uint64_t record;  /* record, from 0 */
-    uint64_t reason;  /* 1 no such symbol, 2 no home, 3 no slot, 4 an unknown type */
+    uint64_t reason;  /* enum nelgrauf_skip_reason */
 };
 
 /* How far patch has come. */
@@ -126,8 +146,8 @@ struct nelgrauf_progress {
 };
 
 /* docs/HOST.md: sizes and offsets. */
-#define NELGRAUF_SIZE(record, bytes) _Static_assert(sizeof(struct record) == (bytes), #record)
-#define NELGRAUF_AT(record, field, at) _Static_assert(offsetof(struct record, field) == (at), #record "." #field)
+#define NELGRAUF_SIZE(record, bytes) NELGRAUF_ASSERT(sizeof(struct record) == (bytes), #record)
+#define NELGRAUF_AT(record, field, at) NELGRAUF_ASSERT(offsetof(struct record, field) == (at), #record "." #field)
 NELGRAUF_SIZE(nelgrauf_counts, 80);
 NELGRAUF_AT(nelgrauf_counts, pages, 0);
 NELGRAUF_AT(nelgrauf_counts, sections, 8);
@@ -172,27 +192,39 @@ NELGRAUF_SIZE(nelgrauf_progress, 16);
 NELGRAUF_AT(nelgrauf_progress, position, 0);
 NELGRAUF_AT(nelgrauf_progress, done, 8);
 
-/* Counts what a file needs: struct nelgrauf_counts into `counts`. Refusals: 13 if `counts` has under 80 bytes; 1 to 11. */
-uint64_t nelgrauf_survey(const void *file, size_t file_bytes, void *counts, size_t counts_bytes);
+#undef NELGRAUF_SIZE
+#undef NELGRAUF_AT
+#undef NELGRAUF_ASSERT
+
+#ifdef __cplusplus
+extern "C" {
+#endif
+
+/* Counts what a file needs: struct nelgrauf_counts into `counts`. Refusals, in this order: 1 to 11; 13 if `counts` has under 80 bytes. */
+uint64_t nelgrauf_survey(const void *file, size_t file_bytes, void *NELGRAUF_RESTRICT counts, size_t counts_bytes);
 
 /* Writes tables, marks and image of a file at `base`, and its counts. Room is needed for what survey counts; bytes past that are
- * left as they were. No fixup is applied. Refusals: 13 if `counts` has under 80 bytes; 12; 1 to 11; 13 if another buffer is too short. */
+ * left as they were. No fixup is applied. Refusals, in this order: 12; 1 to 11; 13 if a buffer is too short, `counts` (80 bytes) included. */
 uint64_t nelgrauf_load(const void *file, size_t file_bytes, uint64_t base,
-                       void *image, size_t image_bytes, void *marks, size_t marks_bytes,
-                       void *sections, size_t sections_bytes, void *symbols, size_t symbols_bytes,
-                       void *externs, size_t externs_bytes, void *fixups, size_t fixups_bytes,
-                       void *skips, size_t skips_bytes, void *counts, size_t counts_bytes);
+                       void *NELGRAUF_RESTRICT image, size_t image_bytes, void *NELGRAUF_RESTRICT marks, size_t marks_bytes,
+                       void *NELGRAUF_RESTRICT sections, size_t sections_bytes, void *NELGRAUF_RESTRICT symbols, size_t symbols_bytes,
+                       void *NELGRAUF_RESTRICT externs, size_t externs_bytes, void *NELGRAUF_RESTRICT fixups, size_t fixups_bytes,
+                       void *NELGRAUF_RESTRICT skips, size_t skips_bytes, void *NELGRAUF_RESTRICT counts, size_t counts_bytes);
 
 /* Applies `number` fixups of the list from `position` on, or all that are left; struct nelgrauf_progress into `progress`.
  * Number 0 applies none and leaves the position where it is. Image, marks and fixups are the counted parts.
- * Refusals, in this order: 13 if `progress` has under 16 bytes; 14; 13 if the image is not whole pages or has too few marks; 15. */
-uint64_t nelgrauf_patch(uint64_t base, void *image, size_t image_bytes, const void *marks, size_t marks_bytes,
+ * Refusals, in this order: 14; 13 if `progress` has under 16 bytes, or the image is not whole pages or has too few marks; 15. */
+uint64_t nelgrauf_patch(uint64_t base, void *NELGRAUF_RESTRICT image, size_t image_bytes, const void *marks, size_t marks_bytes,
                         const void *fixups, size_t fixups_bytes, uint64_t number, uint64_t position,
-                        void *progress, size_t progress_bytes);
+                        void *NELGRAUF_RESTRICT progress, size_t progress_bytes);
 
 /* Copies the image's bytes from `address` on, as many as `out` takes; with length 0 the page of `address` is looked at all the same.
  * Refusals: 13, 15. */
 uint64_t nelgrauf_read(uint64_t base, const void *image, size_t image_bytes, const void *marks, size_t marks_bytes,
-                       uint64_t address, void *out, size_t out_bytes);
+                       uint64_t address, void *NELGRAUF_RESTRICT out, size_t out_bytes);
+
+#ifdef __cplusplus
+}
+#endif
 
 #endif

@@ -1,8 +1,5 @@
-/* The station's host: surveys, loads, patches and reads back one object file, and prints what was loaded.
- *
- *   station [--stop-on-skips] [--portion N] BASE FILE
- *
- * Exit status: 0 done; 1 refused, or stopped on skips; 2 bad arguments, no such file, no memory; 3 the image did not read back. */
+/* The station's host: surveys, loads, patches and reads back one object file, and prints what was loaded. `station --help` says how it is
+ * called; docs/HOST.md has its lines and its exit status. */
 #define _POSIX_C_SOURCE 200809L
 #include "nelgrauf.h"
 
@@ -15,7 +12,7 @@
 #include <string.h>
 #include <sys/stat.h>
 
-enum { DONE = 0, REFUSED = 1, BAD_USE = 2, NOT_READ_BACK = 3 };
+enum { DONE = 0, REFUSED = 1, BAD_USE = 2, NOT_READ_BACK = 3, STOPPED = 4 };
 
 struct options {
     bool stop_on_skips;
@@ -53,14 +50,24 @@ static void die(const char *form, ...)
     exit(BAD_USE);
 }
 
-static void use(void)
+static void print_use(FILE *to)
 {
-    fputs("use: station [--stop-on-skips] [--portion N] BASE FILE\n"
+    fputs("use: station [--stop-on-skips] [--portion N] [--] BASE FILE\n"
           "  BASE  the image's first address, decimal or 0x.. hexadecimal\n"
           "  FILE  a COFF object; - is standard input\n"
-          "  --portion N      apply N fixups a call (default: all in one)\n"
-          "  --stop-on-skips  do not patch if a relocation was skipped\n", stderr);
-    exit(BAD_USE);
+          "  --portion N, --portion=N  apply N fixups a call (default: all in one)\n"
+          "  --stop-on-skips           do not patch if a relocation was skipped\n"
+          "  --help                    print this, and do nothing else\n"
+          "  --                        no option comes behind this\n"
+          "exit status: 0 done, 1 refused, 2 could not be run or printed, 3 not read back, 4 stopped on skips\n", to);
+}
+
+/* The status, if all that was printed could be. */
+static int printed(int status)
+{
+    if (fflush(stdout) != 0 || ferror(stdout))
+        die("standard output: %s", strerror(errno));
+    return status;
 }
 
 /* ---- arguments */
@@ -78,24 +85,50 @@ static bool number_of(const char *word, uint64_t *value)
     return errno == 0;
 }
 
+static uint64_t portion_of(const char *word)
+{
+    uint64_t portion = 0;
+    if (word == NULL)
+        die("--portion needs a number");
+    if (!number_of(word, &portion) || portion == 0)
+        die("--portion needs a number from 1 on, not '%s'", word);
+    return portion;
+}
+
+/* Takes the option at *i, and its number if that is a word of its own; false where no option is left. */
+static bool next_option(struct options *o, char **words, int *i)
+{
+    const char *word = words[*i];
+    if (word == NULL || strncmp(word, "--", 2) != 0)
+        return false;
+    ++*i;
+    if (strcmp(word, "--") == 0)
+        return false;
+    if (strcmp(word, "--help") == 0) {
+        print_use(stdout);
+        exit(printed(DONE));
+    }
+    if (strcmp(word, "--stop-on-skips") == 0)
+        o->stop_on_skips = true;
+    else if (strcmp(word, "--portion") == 0)
+        o->portion = portion_of(words[(*i)++]);
+    else if (strncmp(word, "--portion=", 10) == 0)
+        o->portion = portion_of(word + 10);
+    else
+        die("no such option: %s", word);
+    return true;
+}
+
 static struct options options_of(int count, char **words)
 {
     struct options o = { .stop_on_skips = false, .portion = UINT64_MAX };
-    int i = 1;
-    for (; i < count && strncmp(words[i], "--", 2) == 0; i++) {
-        if (strcmp(words[i], "--stop-on-skips") == 0) {
-            o.stop_on_skips = true;
-        } else if (strcmp(words[i], "--portion") == 0) {
-            if (++i == count)
-                die("--portion needs a number");
-            if (!number_of(words[i], &o.portion) || o.portion == 0)
-                die("--portion needs a number from 1 on, not '%s'", words[i]);
-        } else {
-            die("no such option: %s", words[i]);
-        }
+    int i = count == 0 ? 0 : 1;
+    while (next_option(&o, words, &i))
+        continue;
+    if (count - i != 2) {
+        print_use(stderr);
+        exit(BAD_USE);
     }
-    if (count - i != 2)
-        use();
     if (!number_of(words[i], &o.base))
         die("the base is no number: '%s'", words[i]);
     o.path = words[i + 1];
@@ -113,26 +146,19 @@ static void *lend(uint64_t count, size_t size)
     return at;
 }
 
+/* The file, of which no more is read than shows that it is too long. */
 static struct bytes file_of(const char *path)
 {
+    const size_t most = NELGRAUF_MAX_FILE + 1;
     FILE *in = strcmp(path, "-") == 0 ? stdin : fopen(path, "rb");
     if (in == NULL)
         die("%s: %s", path, strerror(errno));
     struct stat about;
     if (fstat(fileno(in), &about) == 0 && S_ISDIR(about.st_mode))
         die("%s is a directory", path);
-    struct bytes file = { .at = lend(65536, 1), .size = 0 };
-    size_t room = 65536;
-    for (size_t n; (n = fread(file.at + file.size, 1, room - file.size, in)) > 0;) {
-        file.size += n;
-        if (file.size == room) {
-            uint8_t *larger = room <= SIZE_MAX / 2 ? realloc(file.at, room * 2) : NULL;
-            if (larger == NULL)
-                die("%s: no memory for a file of over %zu bytes", path, room);
-            file.at = larger;
-            room *= 2;
-        }
-    }
+    setvbuf(in, NULL, _IONBF, 0); /* a buffer would read ahead */
+    struct bytes file = { .at = lend(most, 1), .size = 0 };
+    file.size = fread(file.at, 1, most, in);
     if (ferror(in))
         die("%s: %s", path, strerror(errno));
     if (in != stdin)
@@ -221,6 +247,17 @@ static const char *refusal_words(uint64_t code)
     return code < sizeof words / sizeof *words && words[code] != NULL ? words[code] : "no such refusal";
 }
 
+static const char *reason_words(uint64_t reason)
+{
+    static const char *const words[] = {
+        [NELGRAUF_NO_SYMBOL] = "no record of that symbol number",
+        [NELGRAUF_NO_HOME] = "the symbol's section has no home",
+        [NELGRAUF_NO_SLOT] = "no slot for the symbol's name",
+        [NELGRAUF_UNKNOWN_TYPE] = "an unknown type",
+    };
+    return reason < sizeof words / sizeof *words && words[reason] != NULL ? words[reason] : "no such reason";
+}
+
 static void print_name(const struct module *m, uint64_t start, uint64_t length)
 {
     putchar(' ');
@@ -257,7 +294,17 @@ static void print_signed(uint64_t v)
         printf("%" PRIu64, v);
 }
 
-static void print_module(const struct module *m, uint64_t base)
+static void print_fixups(const struct module *m)
+{
+    for (uint64_t i = 0; i < m->counts.fixups; i++) {
+        printf("fix %" PRIx64 " %" PRIu64 " ", m->fixups[i].place, m->fixups[i].bits);
+        print_signed(m->fixups[i].value);
+        putchar('\n');
+    }
+}
+
+/* A fixup is printed only once it is applied. */
+static void print_module(const struct module *m, uint64_t base, bool patched)
 {
     const struct nelgrauf_counts *c = &m->counts;
     printf("image %" PRIx64 " pages %" PRIu64 "\n", base, c->pages);
@@ -269,11 +316,8 @@ static void print_module(const struct module *m, uint64_t base)
         printf("extern %" PRIx64, m->externs[i].address);
         print_name(m, m->externs[i].name_start, m->externs[i].name_length);
     }
-    for (uint64_t i = 0; i < c->fixups; i++) {
-        printf("fix %" PRIx64 " %" PRIu64 " ", m->fixups[i].place, m->fixups[i].bits);
-        print_signed(m->fixups[i].value);
-        putchar('\n');
-    }
+    if (patched)
+        print_fixups(m);
     for (uint64_t i = 0; i < c->skips; i++)
         printf("skip %" PRIu64 " %" PRIu64 " K%" PRIu64 "\n", m->skips[i].section, m->skips[i].record, m->skips[i].reason);
     printf("skipped %" PRIu64 " passed %" PRIu64 "\n", c->skips, c->passed);
@@ -286,6 +330,22 @@ static int refused(uint64_t code)
     return REFUSED;
 }
 
+/* Stopped before patching: the lines but for the fixups, and how often each reason was met. */
+static int stopped_on_skips(const struct module *m, uint64_t base)
+{
+    print_module(m, base, false);
+    puts("stopped");
+    fprintf(stderr, "station: stopped before patching, skipped relocations: %" PRIu64 "\n", m->counts.skips);
+    for (uint64_t reason = NELGRAUF_NO_SYMBOL; reason <= NELGRAUF_UNKNOWN_TYPE; reason++) {
+        uint64_t times = 0;
+        for (uint64_t i = 0; i < m->counts.skips; i++)
+            times += m->skips[i].reason == reason;
+        if (times != 0)
+            fprintf(stderr, "station: K%" PRIu64 ", %s: %" PRIu64 "\n", reason, reason_words(reason), times);
+    }
+    return STOPPED;
+}
+
 /* ---- the job */
 
 static int run(struct module *m, const struct options *o)
@@ -293,11 +353,8 @@ static int run(struct module *m, const struct options *o)
     uint64_t code = load(m, o->base);
     if (code != 0)
         return refused(code);
-    if (o->stop_on_skips && m->counts.skips != 0) {
-        print_module(m, o->base);
-        fprintf(stderr, "station: stopped before patching: %" PRIu64 " relocations were skipped\n", m->counts.skips);
-        return REFUSED;
-    }
+    if (o->stop_on_skips && m->counts.skips != 0)
+        return stopped_on_skips(m, o->base);
     bool same = false;
     code = patch(m, o->base, o->portion);
     if (code == 0)
@@ -308,7 +365,7 @@ static int run(struct module *m, const struct options *o)
         fputs("station: the image that is read back differs from the image\n", stderr);
         return NOT_READ_BACK;
     }
-    print_module(m, o->base);
+    print_module(m, o->base, true);
     return DONE;
 }
 
@@ -318,7 +375,5 @@ int main(int count, char **words)
     struct module m = { .file = file_of(o.path) };
     int status = run(&m, &o);
     give_back(&m);
-    if (fflush(stdout) != 0 || ferror(stdout))
-        die("standard output: %s", strerror(errno));
-    return status;
+    return printed(status);
 }

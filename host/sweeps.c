@@ -33,7 +33,7 @@ static const struct kind {
 };
 
 /* FRONT bytes before each buffer are watched too. */
-enum { FRONT = 64, MOST_FILE = 4194304 + NELGRAUF_PAGE, MOST_IMAGE = 4096 * NELGRAUF_PAGE };
+enum { FRONT = 64, MOST_FILE = NELGRAUF_MAX_FILE + NELGRAUF_PAGE, MOST_IMAGE = 4096 * NELGRAUF_PAGE };
 
 static const char *label = "";
 static uint64_t cases, loads, calls, failed;
@@ -165,15 +165,17 @@ static bool load_refused(struct storage *s, uint64_t base, uint64_t want, const 
         && untouched(s, when);
 }
 
-/* A short result comes before a bad base, and that before everything in the file. */
-static bool refused_first(struct storage *s, uint64_t base)
+/* A bad base comes before everything in the file, and that before a short result; `code` is survey's answer. */
+static bool refused_first(struct storage *s, uint64_t base, uint64_t code)
 {
     if (!load_refused(s, base | 1, NELGRAUF_BASE, "a bad base")
         || !load_refused(s, NELGRAUF_MAX_BASE + NELGRAUF_PAGE, NELGRAUF_BASE, "a bad base"))
         return false;
     size_t whole = s->of[COUNTS].size;
     cut(&s->of[COUNTS], kinds[COUNTS].unit - 1);
-    bool right = load_refused(s, base, NELGRAUF_STORAGE, "short counts") && load_refused(s, base | 1, NELGRAUF_STORAGE, "short counts");
+    uint64_t want = !good_base(base) ? NELGRAUF_BASE : code == 0 ? NELGRAUF_STORAGE : code;
+    bool right = load_refused(s, base, want, "short counts")
+        && load_refused(s, base | 1, NELGRAUF_BASE, "short counts");
     cut(&s->of[COUNTS], whole);
     return right;
 }
@@ -186,7 +188,7 @@ static bool named_bases(struct storage *s, const struct one_case *t, uint64_t co
         if (want != 0 && !load_refused(s, t->bases[i], want, "a base of the case"))
             return false;
     }
-    return refused_first(s, t->bases[0]);
+    return refused_first(s, t->bases[0], code);
 }
 
 /* `code` is survey's answer, and load's too, with storage and without. */
@@ -261,15 +263,15 @@ static bool surveyed(uint64_t *code, struct nelgrauf_counts *c)
     struct buffer *b = &counts_room;
     cut(b, sizeof *c - 1);
     paint(b, 0xA5);
-    *code = nelgrauf_survey(file.at, file.size, b->at, b->size);
-    if (!expect(*code == NELGRAUF_STORAGE, "survey into short counts answers %" PRIu64, *code)
-        || !expect(kept_from(b, 0, 0xA5), "survey changes short counts"))
+    uint64_t untold = nelgrauf_survey(file.at, file.size, b->at, b->size);
+    if (!expect(kept_from(b, 0, 0xA5), "survey changes short counts"))
         return false;
     cut(b, 2 * sizeof *c + 1);
     paint(b, 0xA5);
     *code = nelgrauf_survey(file.at, file.size, b->at, b->size);
     memcpy(c, b->at, sizeof *c);
-    return expect(kept_from(b, *code == 0 ? sizeof *c : 0, 0xA5), "survey writes what is not its counts");
+    return expect(untold == (*code == 0 ? NELGRAUF_STORAGE : *code), "survey into short counts answers %" PRIu64, untold)
+        && expect(kept_from(b, *code == 0 ? sizeof *c : 0, 0xA5), "survey writes what is not its counts");
 }
 
 static bool within_limits(const struct nelgrauf_counts *c)

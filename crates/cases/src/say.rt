@@ -29,6 +29,18 @@ pub fn padded(v: u64, width: usize) {
     io::print_hex(1, v, width);
 }
 
+// Bytes, and a number in decimal behind them.
+pub fn part(word: &[u8], v: u64) {
+    text(word);
+    io::print_decimal(1, v);
+}
+
+// The same in hexadecimal.
+pub fn address(word: &[u8], v: u64) {
+    text(word);
+    io::print_hex(1, v, 1);
+}
+
 // A number in two's complement of 64 bits.
 pub fn signed(v: u64) {
     if v < 0x8000000000000000 {

@@ -15,6 +15,11 @@ pub fn least(a: u64, b: usize) -> usize
     if a < b as u64 { a as usize } else { b }
 }
 
+// A count that a table of a test has room for.
+pub fn few(n: u64) -> u16 {
+    if n < 65535 { n as u16 } else { 65535 }
+}
+
 // A line whose word 1 says what is done to a buffer: `fill BYTE` makes all its bytes alike, `put AT BYTES` changes at most 32 of them, and
 // `bytes AT N AT N AT N` asks what stands there.
 pub fn buffer(line: &[u8], b: &mut [u8]) {

@@ -3,18 +3,19 @@ use mathlib.Core.Path.{_≡_, refl, sym, ap, _∙_}
 use mathlib.Core.Bool.{true, false}
 use mathlib.Core.List.{List, [], _∷_, _++_}
 use mathlib.Core.Logic.{⊎-elim}
-use Prim.Native.Nat.{ℕ, zero, suc, _+_, _≤_, _<_}
+use Prim.Native.Nat.{ℕ, zero, suc, _+_, _-_, _≤_, _<_}
 use native.Mathlib.Omega.{arith}
 use lib.Dec.{leb}
 use lib.ListN.{length}
-use borrow.Author.Tests.{leb-true}
-use Rattle.util.specs.Pick.{pick, yes-no}
+use borrow.Author.Tests.{leb-true, leb-false, le-leb, lt-leb, le-ltb, lt-ltb}
+use Rattle.util.specs.Pick.{pick, yes-no, le-or-lt}
+use Rattle.words.specs.Picked.{chosen}
 use Rattle.le.specs.Le.{length-splice}
 use Rattle.refusal.specs.Refusal.{POSITION, unlessRefused}
 use Rattle.patch.specs.declared.answer.Patch.{Patch}
 use Rattle.patch.specs.Fixes.{fixCount, fixed, fixedFrom}
 use Rattle.patch.specs.Patch.{portion, patchCode, patchAnswer}
-use Rattle.demands.specs.Calls.{Call, patch, upFrom, appliedBy, applied, afterCall, answerTo, afterCalls, answersTo}
+use Rattle.demands.specs.Calls.{Call, patch, asked, appliedBy, applied, afterCall, answerTo, afterCalls, answersTo}
 
 -- the image once the fixups ks are applied, one after another
 unfoldable pub writtenAt : ℕ → List ℕ → List ℕ → List ℕ → List ℕ
@@ -32,6 +33,48 @@ unfoldable pub plainAnswers : ℕ → List Call → List Patch
 plainAnswers count [] = []
 plainAnswers count (c ∷ cs) = plainAnswer count c ∷ plainAnswers count cs
 
+-- ---- the fixups that a call asks for are a portion from its position on
+-- n numbers from p on
+unfoldable upFrom : ℕ → ℕ → List ℕ
+upFrom p zero = []
+upFrom p (suc n) = upFrom p n ++ ((p + n) ∷ [])
+
+module _ (number position : ℕ) where
+  asked-none : (n : ℕ) → n ≤ position → chosen (asked number position) n ≡ []
+  unfolding chosen asked pick
+  asked-none zero h = refl
+  asked-none (suc n) h = rw (lt-leb position n (omega arith)) (asked-none n (omega arith))
+
+  asked-more : (n : ℕ) → position ≤ n → chosen (asked number position) n ≡ upFrom position (portion n number position)
+      → chosen (asked number position) (suc n) ≡ upFrom position (portion (suc n) number position)
+  unfolding chosen asked pick upFrom
+  asked-more n a e =
+      ⊎-elim
+      (λ g. let q : portion (suc n) number position ≡ portion n number position = omega arith in
+      rw (le-leb position n a, le-ltb n (position + number) g, q) e)
+      (λ l. let p : portion n number position ≡ n - position = omega arith in
+      let q : portion (suc n) number position ≡ suc (n - position) = omega arith in
+      let z : position + (n - position) ≡ n = omega arith in
+      rw (le-leb position n a, lt-ltb n (position + number) l, q, z) (ap (λ (t : List ℕ). t ++ (n ∷ [])) (e ∙ ap (upFrom position) p)))
+      (le-or-lt (position + number) n)
+
+  asked-up : (n : ℕ) → position ≤ n → chosen (asked number position) n ≡ upFrom position (portion n number position)
+  unfolding chosen upFrom
+  asked-up zero h = let q : portion zero number position ≡ 0 = omega arith in rw q
+  asked-up (suc n) h =
+      ⊎-elim (λ a. asked-more n a (asked-up n a))
+      (λ l. let q : portion (suc n) number position ≡ 0 = omega arith in asked-none (suc n) l ∙ rw q)
+      (le-or-lt position n)
+
+module _ (count number position : ℕ) where
+  applies : leb position count ≡ true → appliedBy count (patch number position) ≡ upFrom position (portion count number position)
+  unfolding appliedBy
+  applies e = asked-up number position count (leb-true position count e)
+
+  applies-none : leb position count ≡ false → appliedBy count (patch number position) ≡ []
+  unfolding appliedBy
+  applies-none e = let l = leb-false position count e in asked-none number position count (omega arith)
+
 -- ---- the applied fixups are fixups of the list
 abbrev pub AllBelow : ℕ → List ℕ → Type 0
 AllBelow count [] = Unit {0}
@@ -47,9 +90,10 @@ up-below count p zero h = tt
 up-below count p (suc n) h = below-both count (upFrom p n) ((p + n) ∷ []) (up-below count p n (omega arith)) (omega arith, tt)
 
 by-below : (count : ℕ) (c : Call) → AllBelow count (appliedBy count c)
-unfolding appliedBy pick
 by-below count (patch number position) =
-    ⊎-elim (λ e. let k = leb-true position count e in rw e (up-below count position (portion count number position) (omega arith))) (λ e. rw e tt)
+    ⊎-elim
+    (λ e. let k = leb-true position count e in rw (applies count number position e) (up-below count position (portion count number position) (omega arith)))
+    (λ e. rw (applies-none count number position e) tt)
     (yes-no (leb position count))
 
 pub applied-below : (count : ℕ) (cs : List Call) → AllBelow count (applied count cs)
@@ -58,15 +102,6 @@ applied-below count [] = tt
 applied-below count (c ∷ cs) = below-both count (appliedBy count c) (applied count cs) (by-below count c) (applied-below count cs)
 
 -- ---- the calls
-module _ (count number position : ℕ) where
-  applies : leb position count ≡ true → appliedBy count (patch number position) ≡ upFrom position (portion count number position)
-  unfolding appliedBy pick
-  applies e = rw e
-
-  applies-none : leb position count ≡ false → appliedBy count (patch number position) ≡ []
-  unfolding appliedBy pick
-  applies-none e = rw e
-
 module _ (base : ℕ) (fixes : List ℕ) where
   length-fixed : (image : List ℕ) (k : ℕ) → length (fixed base fixes image k) ≡ length image
   unfolding fixed
@@ -90,7 +125,7 @@ module _ (base : ℕ) (fixes : List ℕ) where
 
   module _ (marks : List ℕ) (size : ℕ) (plain : (number position : ℕ) → patchCode size marks base fixes number position ≡ plainCode (fixCount fixes) position) where
     call-writes : (image : List ℕ) (c : Call) → length image ≡ size → afterCall base marks fixes image c ≡ writtenAt base fixes image (appliedBy (fixCount fixes) c)
-    unfolding afterCall appliedBy pick unlessRefused writtenAt
+    unfolding afterCall pick unlessRefused writtenAt
     call-writes image (patch number position) e =
         ⊎-elim
         (λ b.

@@ -1,26 +1,26 @@
 -- The calls that follow a load: which fixups they apply, and what the program's contracts say they do (01, "Patch").
+use mathlib.Core.Bool.{Bool, _&&_}
 use mathlib.Core.List.{List, [], _∷_, _++_}
-use Prim.Native.Nat.{ℕ, zero, suc, _+_}
-use lib.Dec.{leb}
+use Prim.Native.Nat.{ℕ, _+_}
+use lib.Dec.{leb, ltb}
 use lib.ListN.{length}
-use Rattle.util.specs.Pick.{pick}
+use Rattle.words.specs.Picked.{chosen}
 use Rattle.patch.specs.declared.answer.Patch.{Patch}
 use Rattle.patch.specs.Fixes.{fixCount}
-use Rattle.patch.specs.Patch.{portion, patchCode, patchAnswer, patched}
+use Rattle.patch.specs.Patch.{patchCode, patchAnswer, patched}
 
 -- a call's number and position; other calls may join
 pub data Call : Type 0 where
   patch : ℕ → ℕ → Call
 
 -- ---- what is applied, by the calls alone
--- n numbers from p on
-unfoldable pub upFrom : ℕ → ℕ → List ℕ
-upFrom p zero = []
-upFrom p (suc n) = upFrom p n ++ ((p + n) ∷ [])
+-- fixup k is one of `number` from the position on
+unfoldable pub asked : ℕ → ℕ → ℕ → Bool
+asked number position k = leb position k && ltb k (position + number)
 
--- of a list of `count` fixups: a portion from the position on, or none if that is above the count
+-- of a list of `count` fixups those that are asked for, in list order; from a position above the count there are none
 unfoldable pub appliedBy : ℕ → Call → List ℕ
-appliedBy count (patch number position) = pick (leb position count) (upFrom position (portion count number position)) []
+appliedBy count (patch number position) = chosen (asked number position) count
 
 -- the fixups that are applied, the latest last
 unfoldable pub applied : ℕ → List Call → List ℕ

@@ -33,3 +33,17 @@ sectionsOf f base = sectionTable f (headerOf f) base (startsTo f (headerOf f) (h
 -- and the table of extern names
 abbrev pub externsOf : List ℕ → ℕ → List ℕ
 externsOf f base = externTable f (headerOf f) base (undefStart f (headerOf f)) (externs f (headerOf f)) (length (externs f (headerOf f)))
+
+-- ---- the five as they are lent
+pub record Lent : Type 0 where
+  pub image : List ℕ
+  pub marks : List ℕ
+  pub fixes : List ℕ
+  pub sections : List ℕ
+  pub externs : List ℕ
+
+abbrev pub lent : List ℕ → List ℕ → List ℕ → List ℕ → List ℕ → Lent
+lent image marks fixes sections externs = record { image = image; marks = marks; fixes = fixes; sections = sections; externs = externs }
+
+abbrev pub lentOf : List ℕ → ℕ → Lent
+lentOf f base = lent (imageOf f base) (marksOf f) (fixTableOf f base) (sectionsOf f base) (externsOf f base)

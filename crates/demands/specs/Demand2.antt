@@ -1,51 +1,268 @@
 -- Of the request's second demand: where our modules stay, the value is PE/COFF's too. (Layout, homes, slots, symbols, fixups and skips as the Rust has them are the definitions themselves;
--- docs/CLAIMS.md lists them.)
-use mathlib.Core.Path.{_≡_}
+-- docs/CLAIMS.md lists them.) What the standard adds and takes away is read off the file: nothing of it is the loader's own answer.
+use mathlib.Core.Path.{_≡_, refl, sym, ap, _∙_}
 use mathlib.Core.Bool.{true}
 use mathlib.Core.List.{List}
-use mathlib.Core.Logic.{_⊎_, ⊎-elim}
-use Prim.Native.Nat.{ℕ, _+_, _-_, _/_, _%_, _^_, _≤_, _<_}
+use mathlib.Core.Logic.{_⊎_, inl, inr, ⊎-elim}
+use Prim.Native.Nat.{ℕ, zero, suc, _+_, _-_, _*_, _/_, _%_, _^_, _≤_, _<_}
 use native.Mathlib.Omega.{arith}
-use lib.Dec.{eqb, leb}
+use lib.Dec.{eqb, leb, ltb}
 use lib.ListN.{length}
 use borrow.Author.Tests.{leb-true}
-use Rattle.util.specs.Pick.{pick, and-right}
+use Rattle.util.specs.Pick.{pick, and-right, yes-no}
 use Rattle.arch.specs.Page.{PAGE-SIZE}
+use Rattle.arch.specs.declared.RVA.{RVA}
+use Rattle.arch.specs.declared.Offset.{Offset}
+use Rattle.arch.specs.declared.Offset.the-variants.{At, None}
+use Rattle.arch.specs.Address.{rva, at-same, none-not-at}
+use Rattle.arch.specs.Machine.{archOf, archBy}
 use Rattle.le.specs.Le.{get, part}
+use Rattle.object.specs.declared.Header.{Header}
 use Rattle.object.specs.Format.{headerOf, symbolValue}
 use Rattle.object.specs.Section.{fileStart, fileEnd, relocationCount}
-use Rattle.object.specs.Relocation.{relocationAddress, relocationSymbol}
+use Rattle.object.specs.Symbol.{symbolPlace, kind, primary}
+use Rattle.object.specs.Relocation.{relocationAddress, relocationSymbol, relocationType}
+use Rattle.kinds.specs.declared.SymbolKind.{SymbolKind}
+use Rattle.kinds.specs.declared.SymbolKind.the-variants as kinds
+use Rattle.kinds.specs.declared.Place.{Place}
+use Rattle.kinds.specs.declared.Place.the-variants as places
 use Rattle.kinds.specs.declared.RelocationKind.{RelocationKind}
 use Rattle.kinds.specs.declared.RelocationKind.the-variants.{Absolute, ImageOffset, SectionOffset, Relative, NotCarried, Unknown}
+use Rattle.kinds.specs.declared.RelocationType.{RelocationType}
+use Rattle.kinds.specs.Types.{typeOf}
+use Rattle.names.specs.Name.{symbolText}
+use Rattle.layout.specs.Layout.{startAt, undefStart}
+use Rattle.homes.specs.declared.Home.the-variants.{Loaded}
+use Rattle.homes.specs.Home.{homeOf, homeStart, sectionHome, byNumber}
+use Rattle.rules.specs.declared.Rule.{Rule}
+use Rattle.rules.specs.declared.Rule.the-variants as rules
+use Rattle.rules.specs.Rule.{dataRule, sectionRule, labelRule, unknownRule, ruleOf}
+use Rattle.codes.specs.Code.{symbolRule}
+use Rattle.externs.specs.declared.Found.{Found}
+use Rattle.externs.specs.declared.Found.the-variants.{Index, Nothing}
+use Rattle.externs.specs.Externs.{externs}
+use Rattle.externs.specs.Slot.{slotOf}
+use Rattle.targets.specs.declared.Target.{Target}
+use Rattle.targets.specs.declared.Target.the-variants.{Home, Named, Slot, Missing, Refused}
+use Rattle.targets.specs.Target.{homeTarget, slotTarget, ruleTarget, targetOf, targets}
 use Rattle.fixups.specs.declared.Fix.{Fix}
 use Rattle.fixups.specs.Value.{valueOf}
 use Rattle.fixups.specs.declared.Outcome.the-variants.{Fixup}
 use Rattle.fixups.specs.ValueLaws.{Exact}
 use Rattle.fixups.specs.ListLaws.{every-fixup}
+use Rattle.fixups.specs.OutcomeLaws.{Reaches, fix-from}
 use Rattle.survey.specs.declared.answer.Counts.{Counts}
 use Rattle.survey.specs.declared.answer.Survey.the-variants.{Accepted}
 use Rattle.survey.specs.Survey.{outcomes, surveyOf}
 use Rattle.survey.specs.Acceptance.{fixups-exact}
-use Rattle.limits.specs.Limits.{MAX-BASE}
+use Rattle.limits.specs.Limits.{MAX-BASE, SLOT-SIZE}
 use Rattle.checks.specs.Checks.{baseOk}
 use Rattle.demands.specs.Origin.{fixupsOf, fixupAt, noFixup, fixupValue}
 
--- what the standard takes away: the place's address, the image's start, or the address where the target's section starts
+-- what the standard takes away: the place's address, the image's start, or the address where the symbol's section starts
 abbrev pub takenAway : RelocationKind → ℕ → ℕ → ℕ → ℕ
 takenAway Absolute base place start = 0
 takenAway ImageOffset base place start = base
 takenAway SectionOffset base place start = start
-takenAway Relative base place start = base + place
+takenAway Relative base place start = place
 takenAway NotCarried base place start = 0
 takenAway Unknown base place start = 0
 
--- the target's address, the symbol's value, the bytes already in the field and the addend, less that; in two's complement of 64 bits
-unfoldable pub standardValue : ℕ → Fix → ℕ → ℕ → ℕ → ℕ
-standardValue base x value field start =
-    (base + x .target .0 + value + field + x .addend + (2 ^ 64 - takenAway (x .kind) base (x .place .0) start)) % 2 ^ 64
+-- the symbol's address, the bytes already in the field and the addend, less that; in two's complement of 64 bits
+unfoldable pub standardValue : RelocationKind → ℕ → ℕ → ℕ → ℕ → ℕ → ℕ → ℕ
+standardValue kind addend base symbol place field start = (symbol + field + addend + (2 ^ 64 - takenAway kind base place start)) % 2 ^ 64
 
--- absolute and relative fixups of symbols at the start of their section, with zero fields, have the standard's value
-pub standard-met : (base : ℕ) (x : Fix) (start : ℕ) → base ≤ MAX-BASE → Exact x → (x .kind ≡ Absolute) ⊎ (x .kind ≡ Relative) → standardValue base x 0 0 start ≡ valueOf base x
+-- ---- of a file: where the section starts that a symbol's own number names; a symbol of no section stands at its name's slot
+abbrev pub slotStart : List ℕ → Found → ℕ
+slotStart f (Index e) = undefStart f (headerOf f) + SLOT-SIZE * e
+slotStart f Nothing = 0
+
+abbrev pub slotNamed : List ℕ → ℕ → ℕ
+slotNamed f j = slotStart f (slotOf f (headerOf f) (externs f (headerOf f)) (symbolText f (headerOf f) j))
+
+abbrev pub startBy : List ℕ → ℕ → Place → ℕ
+startBy f j (places.In n) = startAt f (headerOf f) (n - 1)
+startBy f j places.Undefined = slotNamed f j
+startBy f j places.Common = slotNamed f j
+startBy f j places.Absolute = slotNamed f j
+startBy f j places.Nowhere = slotNamed f j
+startBy f j places.Other = slotNamed f j
+
+abbrev pub symbolStart : List ℕ → ℕ → ℕ
+symbolStart f j = startBy f j (symbolPlace f (headerOf f) j)
+
+-- ---- relocation k of section i, both from 0
+module _ (f : List ℕ) (i k : ℕ) where
+  abbrev pub named : ℕ
+  named = relocationSymbol f (headerOf f) i k
+
+  abbrev pub typeNamed : RelocationType
+  typeNamed = typeOf (archBy (archOf (headerOf f .machine))) (relocationType f (headerOf f) i k)
+
+  -- S: the symbol's value behind the start of its own section
+  abbrev pub symbolAddress : ℕ → ℕ
+  symbolAddress base = base + symbolStart f named + symbolValue f (headerOf f) named
+
+  -- P: the address field behind the start of the relocation's own section
+  abbrev pub placeAddress : ℕ → ℕ
+  placeAddress base = base + startAt f (headerOf f) i + relocationAddress f (headerOf f) i k
+
+  -- the bytes already in its field: of the section's raw data, at the address field; zero where it has none
+  abbrev pub fieldOf : ℕ
+  fieldOf =
+      get (typeNamed .bits / 8) (part f (fileStart f (headerOf f) i) (fileEnd f (headerOf f) i - fileStart f (headerOf f) i))
+      (relocationAddress f (headerOf f) i k)
+
+  -- its value by the standard, at a base
+  abbrev pub standardAt : ℕ → ℕ
+  standardAt base =
+      standardValue (typeNamed .kind) (typeNamed .addend) base (symbolAddress base) (placeAddress base) fieldOf (base + symbolStart f named)
+
+-- ---- where our modules stay: one symbol a section, at its start, and zero fields
+-- section i is its own home: it is loaded, and no loaded section before it has its file start
+abbrev pub OwnHome : List ℕ → ℕ → Type 0
+OwnHome f i = homeOf f (headerOf f) i ≡ Loaded i
+
+-- so is the section of a symbol, if it has one
+abbrev pub OwnPlace : List ℕ → Place → Type 0
+OwnPlace f (places.In n) = OwnHome f (n - 1)
+OwnPlace f places.Undefined = Unit {0}
+OwnPlace f places.Common = Unit {0}
+OwnPlace f places.Absolute = Unit {0}
+OwnPlace f places.Nowhere = Unit {0}
+OwnPlace f places.Other = Unit {0}
+
+-- a symbol is looked for by its section's number or put among the externs; left out are sections looked for by name, and unknown kinds
+abbrev pub Direct : Rule → Type 0
+Direct (rules.Section n) = Unit {0}
+Direct rules.Extern = Unit {0}
+Direct rules.Slot = ⊥
+Direct rules.Name = ⊥
+Direct rules.Refused = ⊥
+
+pub record Stays (f : List ℕ) (i k : ℕ) : Type 0 where
+  pub place-own : OwnHome f i
+  pub symbol-own : OwnPlace f (symbolPlace f (headerOf f) (named f i k))
+  pub direct : Direct (symbolRule f (headerOf f) (named f i k))
+  pub carried : (typeNamed f i k .kind ≡ Absolute) ⊎ (typeNamed f i k .kind ≡ Relative)
+  pub value : symbolValue f (headerOf f) (named f i k) ≡ 0
+  pub field : fieldOf f i k ≡ 0
+
+-- ---- what a target reaches starts there
+abbrev reached : Target → Offset
+reached (Home o) = At o
+reached (Named o) = At o
+reached (Slot o) = At o
+reached (Missing k) = None
+reached Refused = None
+
+reached-is : (g : Target) (o : RVA) → Reaches g o → reached g ≡ At o
+reached-is g o r = ⊎-elim (λ e. ap reached e) (⊎-elim (λ e. ap reached e) (λ e. ap reached e)) (r .way)
+
+home-reached : (x : Offset) → reached (homeTarget x) ≡ x
+unfolding homeTarget
+home-reached (At o) = refl
+home-reached None = refl
+
+module _ (f : List ℕ) where
+  abbrev h : Header
+  h = headerOf f
+
+  -- a section that is its own home starts where it starts
+  own-start : (i : ℕ) (o : RVA) → OwnHome f i → sectionHome f h i ≡ At o → o .0 ≡ startAt f h i
+  unfolding sectionHome homeStart pick
+  own-start i o own e =
+      ⊎-elim (λ t.
+      let y : homeStart f h (homeOf f h i) ≡ At o = rw t at e in
+      let z : At (rva (startAt f h i)) ≡ At o = rw own at y in
+      sym (at-same (rva (startAt f h i)) o z))
+      (λ t. let z : None ≡ At o = rw t at e in absurd (none-not-at o z))
+      (yes-no (ltb i (h .sections)))
+
+  in-section : (n : ℕ) (o : RVA) → OwnHome f (n - 1) → reached (homeTarget (byNumber (sectionHome f h) None n)) ≡ At o → o .0 ≡ startAt f h (n - 1)
+  unfolding byNumber homeTarget
+  in-section zero o own e = absurd (none-not-at o e)
+  in-section (suc m) o own e =
+      let z : suc m - 1 ≡ m = omega arith in
+      let y : OwnHome f m = rw z at own in
+      rw z (own-start m o y (sym (home-reached (sectionHome f h m)) ∙ e))
+
+  in-slot : (s : Found) (o : RVA) → reached (slotTarget (undefStart f h) s) ≡ At o → o .0 ≡ slotStart f s
+  unfolding slotTarget
+  in-slot (Index e) o q = sym (at-same (rva (undefStart f h + SLOT-SIZE * e)) o q)
+  in-slot Nothing o q = absurd (none-not-at o q)
+
+  module _ (j : ℕ) where
+    abbrev byRule : Rule → Target
+    byRule r = ruleTarget f h (sectionHome f h) (undefStart f h) (slotOf f h (externs f h)) r j
+
+    abbrev Starts : Place → Rule → Type 0
+    Starts p r = OwnPlace f p → Direct r → (o : RVA) → reached (byRule r) ≡ At o → o .0 ≡ startBy f j p
+
+    by-number : (n : ℕ) → Starts (places.In n) (rules.Section n)
+    unfolding ruleTarget
+    by-number n own d o e = in-section n o own e
+
+    by-name : (o : RVA) → reached (byRule rules.Extern) ≡ At o → o .0 ≡ slotNamed f j
+    unfolding ruleTarget
+    by-name o e = in-slot (slotOf f h (externs f h) (symbolText f h j)) o e
+
+    data-starts : (p : Place) → Starts p (dataRule p)
+    data-starts (places.In n) own d = by-number n own d
+    data-starts places.Undefined own d = by-name
+    data-starts places.Common own d = by-name
+    data-starts places.Other own d = by-name
+    data-starts places.Absolute own d = absurd d
+    data-starts places.Nowhere own d = absurd d
+
+    section-starts : (p : Place) → Starts p (sectionRule p)
+    section-starts (places.In n) own d = by-number n own d
+    section-starts places.Undefined own d = absurd d
+    section-starts places.Common own d = absurd d
+    section-starts places.Other own d = absurd d
+    section-starts places.Absolute own d = absurd d
+    section-starts places.Nowhere own d = absurd d
+
+    label-starts : (p : Place) → Starts p (labelRule p)
+    label-starts (places.In n) own d = by-number n own d
+    label-starts places.Undefined own d = absurd d
+    label-starts places.Common own d = absurd d
+    label-starts places.Other own d = absurd d
+    label-starts places.Absolute own d = absurd d
+    label-starts places.Nowhere own d = absurd d
+
+    unknown-starts : (p : Place) → Starts p (unknownRule p)
+    unknown-starts (places.In n) own d = absurd d
+    unknown-starts places.Undefined own d = absurd d
+    unknown-starts places.Common own d = by-name
+    unknown-starts places.Other own d = absurd d
+    unknown-starts places.Absolute own d = absurd d
+    unknown-starts places.Nowhere own d = absurd d
+
+    rule-starts : (k : SymbolKind) (p : Place) → Starts p (ruleOf k p)
+    rule-starts kinds.Data p own d = data-starts p own d
+    rule-starts kinds.Text p own d = data-starts p own d
+    rule-starts kinds.Section p own d = section-starts p own d
+    rule-starts kinds.Label p own d = label-starts p own d
+    rule-starts kinds.Unknown p own d = unknown-starts p own d
+    rule-starts kinds.File p own d = absurd d
+
+    by-record : (o : RVA) → reached (targets f h j) ≡ At o → reached (byRule (symbolRule f h j)) ≡ At o
+    unfolding targetOf pick
+    by-record o e =
+        ⊎-elim (λ t. let z : None ≡ At o = rw t at e in absurd (none-not-at o z))
+        (λ t.
+        let y : reached (pick (primary f h j) (byRule (symbolRule f h j)) Refused) ≡ At o = rw t at e in
+        ⊎-elim (λ u. let z : reached (byRule (symbolRule f h j)) ≡ At o = rw u at y in z)
+        (λ u. let z : None ≡ At o = rw u at y in absurd (none-not-at o z)) (yes-no (primary f h j)))
+        (yes-no (leb (h .symbols) j))
+
+    symbol-starts : OwnPlace f (symbolPlace f h j) → Direct (symbolRule f h j) → (o : RVA) → Reaches (targets f h j) o → o .0 ≡ symbolStart f j
+    symbol-starts own d o r = rule-starts (kind f h j) (symbolPlace f h j) own d o (by-record o (reached-is (targets f h j) o r))
+
+-- ---- absolute and relative fixups over zero fields have the standard's value, with the symbol at the target
+pub standard-met : (base : ℕ) (x : Fix) (start : ℕ) → base ≤ MAX-BASE → Exact x → (x .kind ≡ Absolute) ⊎ (x .kind ≡ Relative)
+    → standardValue (x .kind) (x .addend) base (base + x .target .0) (base + x .place .0) 0 start ≡ valueOf base x
 unfolding standardValue valueOf pick
 standard-met base x start low ok k =
     let p = ok .place in
@@ -65,24 +282,26 @@ fixups-from f k =
     every-fixup (From f) (outcomes f (headerOf f)) (relocationCount f (headerOf f)) (headerOf f .sections)
     (λ i j x a b e. record { section = i; index = j; inside = a; counted = b; is = e }) k noFixup
 
-module _ (f : List ℕ) (x : Fix) (r : From f x) where
-  -- the value of the symbol that the relocation names
-  abbrev pub valueNamed : ℕ
-  valueNamed = symbolValue f (headerOf f) (relocationSymbol f (headerOf f) (r .section) (r .index))
+-- the standard's value is that with the fixup's own parts for those of the file
+same-value : (k k′ : RelocationKind) (a a′ base s s′ p p′ z start : ℕ) → k ≡ k′ → a ≡ a′ → s ≡ s′ → p ≡ p′ → z ≡ 0
+    → standardValue k a base s p z start ≡ standardValue k′ a′ base s′ p′ 0 start
+same-value k k′ a a′ base s s′ p p′ z start e₁ e₂ e₃ e₄ e₅ = rw (e₁, e₂, e₃, e₄, e₅)
 
-  -- the bytes already in its field: of the section's raw data, at the address field; zero where it has none
-  abbrev pub fieldOf : ℕ
-  fieldOf =
-      get (x .bits / 8) (part f (fileStart f (headerOf f) (r .section)) (fileEnd f (headerOf f) (r .section) - fileStart f (headerOf f) (r .section)))
-      (relocationAddress f (headerOf f) (r .section) (r .index))
-
--- the standard's value of a fixup of an accepted file is ours, at every allowed base, if it is absolute or relative, its relocation names a symbol of
--- value 0 and its field is zero. Our modules stay there: one symbol a section, at its start, and zero fields
+-- the standard's value of a fixup of an accepted file is ours, at every allowed base, if its relocation and its symbol stay where our modules do
 pub standard-of-file : (f : List ℕ) (c : Counts) → surveyOf f ≡ Accepted c → (base : ℕ) → baseOk base ≡ true
-    → (k : ℕ) → k < length (fixupsOf f) → (r : From f (fixupAt f k)) → (fixupAt f k .kind ≡ Absolute) ⊎ (fixupAt f k .kind ≡ Relative)
-    → valueNamed f (fixupAt f k) r ≡ 0 → fieldOf f (fixupAt f k) r ≡ 0
-    → (start : ℕ) → standardValue base (fixupAt f k) (valueNamed f (fixupAt f k) r) (fieldOf f (fixupAt f k) r) start ≡ fixupValue f base k
+    → (k : ℕ) → k < length (fixupsOf f) → (r : From f (fixupAt f k)) → Stays f (r .section) (r .index)
+    → standardAt f (r .section) (r .index) base ≡ fixupValue f base k
 unfolding baseOk
-standard-of-file f c accepted base ok k l r kind v z start =
+standard-of-file f c accepted base ok k l r s =
     let low : base ≤ MAX-BASE = leb-true base MAX-BASE (and-right (eqb (base % PAGE-SIZE) 0) (leb base MAX-BASE) ok) in
-    rw (v, z) (standard-met base (fixupAt f k) start low (fixups-exact f c accepted k noFixup l) kind)
+    let w = fix-from (archBy (archOf (headerOf f .machine))) f (headerOf f) (sectionHome f (headerOf f)) (targets f (headerOf f)) (r .section) (r .index) (fixupAt f k) (r .is) in
+    let same : fixupAt f k .kind ≡ typeNamed f (r .section) (r .index) .kind = ap (λ (y : Fix). y .kind) (w .resolved .is) in
+    let adds : fixupAt f k .addend ≡ typeNamed f (r .section) (r .index) .addend = ap (λ (y : Fix). y .addend) (w .resolved .is) in
+    let at : fixupAt f k .place .0 ≡ w .start .0 + relocationAddress f (headerOf f) (r .section) (r .index) = ap (λ (y : Fix). y .place .0) (w .resolved .is) in
+    let begin : w .start .0 ≡ startAt f (headerOf f) (r .section) = own-start f (r .section) (w .start) (s .place-own) (w .homed) in
+    let reach : fixupAt f k .target .0 ≡ symbolStart f (named f (r .section) (r .index)) =
+    symbol-starts f (named f (r .section) (r .index)) (s .symbol-own) (s .direct) (fixupAt f k .target) (w .resolved .reaches) in
+    let zeroed = s .value in
+    same-value _ _ _ _ base _ _ _ _ _ _ (sym same) (sym adds) (omega arith) (omega arith) (s .field)
+    ∙ standard-met base (fixupAt f k) (base + symbolStart f (named f (r .section) (r .index))) low (fixups-exact f c accepted k noFixup l)
+    (⊎-elim (λ e. inl (same ∙ e)) (λ e. inr (same ∙ e)) (s .carried))

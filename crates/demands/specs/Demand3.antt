@@ -14,6 +14,7 @@ use Rattle.util.specs.Pick.{pick, and-right}
 use Rattle.arch.specs.Page.{PAGE-SIZE}
 use Rattle.le.specs.Le.{get, le}
 use Rattle.object.specs.Format.{headerOf}
+use Rattle.object.specs.Section.{loaded}
 use Rattle.layout.specs.Layout.{undefStart, startsTo}
 use Rattle.layout.specs.LayoutLaws.{ranges-share-none, undef-behind, undef-fits}
 use Rattle.fixups.specs.Signed.{signed, slot-keeps}
@@ -28,41 +29,46 @@ use Rattle.image.specs.LaidLaws.{length-laid}
 use Rattle.patch.specs.declared.answer.Patch.{Patch}
 use Rattle.patch.specs.Fixes.{fixCount, placeAt, bitsAt, valueAt, widthOf}
 use Rattle.patch.specs.Patch.{patchCode}
-use Rattle.limits.specs.Limits.{MAX-PAGES, MAX-BASE}
+use Rattle.limits.specs.Limits.{MAX-PAGES, MAX-BASE, EXTERN-BYTES}
 use Rattle.checks.specs.Checks.{baseOk}
 use Rattle.demands.specs.Calls.{Call, applied, afterCalls, answersTo}
 use Rattle.demands.specs.Origin.{fixupsOf, fixupAt, noFixup, slotsOf, fixupPlace, fixupWidth, fixupValue, undefAddress, slotValue, inSection, latest, originBy, origin, byteOf}
-use Rattle.demands.specs.Counted.{pagesOf, imageOf, marksOf, fixTableOf}
+use Rattle.demands.specs.Counted.{pagesOf, imageOf, marksOf, fixTableOf, Lent, lentOf}
 use Rattle.demands.specs.Applying.{writtenAt, plainCode, plainAnswers, applied-below, calls-write, answers-plain, length-written}
 use Rattle.demands.specs.Mapped.{FixupPlaced, fixes-counted, place-back, bits-back, value-back, only-position}
 use Rattle.demands.specs.Bytes.{seen, written-byte}
 use Rattle.demands.specs.Laying.{in-range, laid-byte}
 use Rattle.demands.specs.Moving.{origin-same}
+use Rattle.demands.specs.Reading.{RangeRead, UndefRead, range-read, undef-is-read, slot-is-read}
 
--- the image, and the answers, once the calls are made on what the load of f at the base leaves
-abbrev pub imageAfter : List ℕ → ℕ → List Call → List ℕ
-imageAfter f base calls = afterCalls base (marksOf f) (fixTableOf f base) (imageOf f base) calls
+-- the image, and the answers, once the calls are made on what is lent
+abbrev pub imageAfter : ℕ → Lent → List Call → List ℕ
+imageAfter base t calls = afterCalls base (t .marks) (t .fixes) (t .image) calls
 
-abbrev pub answersAfter : List ℕ → ℕ → List Call → List Patch
-answersAfter f base calls = answersTo base (marksOf f) (fixTableOf f base) (imageOf f base) calls
+abbrev pub answersAfter : ℕ → Lent → List Call → List Patch
+answersAfter base t calls = answersTo base (t .marks) (t .fixes) (t .image) calls
 
 -- the fixups that the calls apply, the latest last: by their numbers and positions and the list's count alone
 abbrev pub appliedTo : List ℕ → List Call → List ℕ
 appliedTo f calls = applied (length (fixupsOf f)) calls
 
--- ---- at a base
-pub record AtBase (f : List ℕ) (base : ℕ) (calls : List Call) : Type 0 where
+-- ---- at a base, of what a load has lent
+pub record AtLoad (f : List ℕ) (base : ℕ) (t : Lent) (calls : List Call) : Type 0 where
+  -- the section table has the range and the file range of each loaded section, and UNDEF; the extern table has the slots
+  pub ranges-read : (i : ℕ) → i < headerOf f .sections → loaded f (headerOf f) i ≡ true → RangeRead f base (t .sections) i
+  pub undef-read : UndefRead f base (t .sections)
+  pub slots-read : (e : ℕ) → e < slotsOf f → get 8 (t .externs) (EXTERN-BYTES * e) ≡ slotValue f base e
   -- the fix list is the load's fixups
-  pub count : fixCount (fixTableOf f base) ≡ length (fixupsOf f)
-  pub places : (k : ℕ) → k < length (fixupsOf f) → placeAt (fixTableOf f base) k ≡ fixupPlace f base k
-  pub widths : (k : ℕ) → k < length (fixupsOf f) → widthOf (bitsAt (fixTableOf f base) k) ≡ fixupWidth f base k
-  pub values : (k : ℕ) → k < length (fixupsOf f) → valueAt (fixTableOf f base) k ≡ fixupValue f base k
+  pub count : fixCount (t .fixes) ≡ length (fixupsOf f)
+  pub places : (k : ℕ) → k < length (fixupsOf f) → placeAt (t .fixes) k ≡ fixupPlace f base k
+  pub widths : (k : ℕ) → k < length (fixupsOf f) → widthOf (bitsAt (t .fixes) k) ≡ fixupWidth f base k
+  pub values : (k : ℕ) → k < length (fixupsOf f) → valueAt (t .fixes) k ≡ fixupValue f base k
   -- a call is refused for its position alone (14), and the answers follow from the calls and the list's count
-  pub refused : (number position : ℕ) → patchCode (PAGE-SIZE * pagesOf f) (marksOf f) base (fixTableOf f base) number position ≡ plainCode (length (fixupsOf f)) position
-  pub answered : answersAfter f base calls ≡ plainAnswers (length (fixupsOf f)) calls
+  pub refused : (number position : ℕ) → patchCode (PAGE-SIZE * pagesOf f) (t .marks) base (t .fixes) number position ≡ plainCode (length (fixupsOf f)) position
+  pub answered : answersAfter base t calls ≡ plainAnswers (length (fixupsOf f)) calls
   -- every byte of the image is its origin's
-  pub long : length (imageAfter f base calls) ≡ PAGE-SIZE * pagesOf f
-  pub bytes : (d : ℕ) → d < PAGE-SIZE * pagesOf f → getD (imageAfter f base calls) d 0 ≡ byteOf f base (origin f base (appliedTo f calls) (base + d))
+  pub long : length (imageAfter base t calls) ≡ PAGE-SIZE * pagesOf f
+  pub bytes : (d : ℕ) → d < PAGE-SIZE * pagesOf f → getD (imageAfter base t calls) d 0 ≡ byteOf f base (origin f base (appliedTo f calls) (base + d))
   -- no address lies in two section ranges, and UNDEF is behind them all
   pub apart : (i j a : ℕ) → inSection f base a i ≡ true → inSection f base a j ≡ true → i ≡ j
   pub behind : (i a : ℕ) → i < headerOf f .sections → inSection f base a i ≡ true → a < undefAddress f base
@@ -71,19 +77,23 @@ pub record AtBase (f : List ℕ) (base : ℕ) (calls : List Call) : Type 0 where
       → signed (fixupWidth f base k) (get (fixupWidth f base k) (le (fixupWidth f base k) (fixupValue f base k)) 0) ≡ signed 8 (fixupValue f base k)
   pub slot-whole : (e : ℕ) → e < slotsOf f → signed 4 (get 4 (le 4 (slotValue f base e)) 0) ≡ pos (slotValue f base e)
 
+-- of what the file and the base alone say
+abbrev pub AtBase : List ℕ → ℕ → List Call → Type 0
+AtBase f base calls = AtLoad f base (lentOf f base) calls
+
 -- ---- at two bases
-pub record AtBoth (f : List ℕ) (b₁ b₂ : ℕ) (calls : List Call) : Type 0 where
-  pub answers : answersAfter f b₁ calls ≡ answersAfter f b₂ calls
+pub record AtBoth (f : List ℕ) (b₁ b₂ : ℕ) (t₁ t₂ : Lent) (calls : List Call) : Type 0 where
+  pub answers : answersAfter b₁ t₁ calls ≡ answersAfter b₂ t₂ calls
   -- bytes are paired by distance from the base
   pub origins : (d : ℕ) → origin f b₁ (appliedTo f calls) (b₁ + d) ≡ origin f b₂ (appliedTo f calls) (b₂ + d)
   pub relative : (k : ℕ) → isRelative (fixupAt f k .kind) ≡ true → fixupValue f b₂ k ≡ fixupValue f b₁ k
   pub others : (k : ℕ) → k < length (fixupsOf f) → isRelative (fixupAt f k .kind) ≡ false → fixupValue f b₂ k + b₁ ≡ fixupValue f b₁ k + b₂
   pub slots : (e : ℕ) → slotValue f b₂ e + b₁ ≡ slotValue f b₁ e + b₂
 
-pub record Demand3 (f : List ℕ) (b₁ b₂ : ℕ) (calls : List Call) : Type 0 where
-  pub one : AtBase f b₁ calls
-  pub other : AtBase f b₂ calls
-  pub both : AtBoth f b₁ b₂ calls
+pub record Demand3 (f : List ℕ) (b₁ b₂ : ℕ) (t₁ t₂ : Lent) (calls : List Call) : Type 0 where
+  pub one : AtLoad f b₁ t₁ calls
+  pub other : AtLoad f b₂ t₂ calls
+  pub both : AtBoth f b₁ b₂ t₁ t₂ calls
 
 -- ---- its only hypotheses: the file is accepted, the bases are allowed
 low : (base : ℕ) → baseOk base ≡ true → base ≤ MAX-BASE
@@ -109,12 +119,12 @@ module _ (f : List ℕ) (c : Counts) (accepted : surveyOf f ≡ Accepted c) wher
     only : (number position : ℕ) → patchCode (PAGE-SIZE * pagesOf f) (marksOf f) base (fixTableOf f base) number position ≡ plainCode (fixCount (fixTableOf f base)) position
     only = only-position f base (low base ok) few placed
 
-    writes : (calls : List Call) → imageAfter f base calls ≡ writtenAt base (fixTableOf f base) (imageOf f base) (appliedTo f calls)
+    writes : (calls : List Call) → imageAfter base (lentOf f base) calls ≡ writtenAt base (fixTableOf f base) (imageOf f base) (appliedTo f calls)
     writes calls =
         let e = calls-write base (fixTableOf f base) (marksOf f) (PAGE-SIZE * pagesOf f) only calls (imageOf f base) (image-long base) in
         rw (fixes-counted f base) at e
 
-    answers-are : (calls : List Call) → answersAfter f base calls ≡ plainAnswers (length (fixupsOf f)) calls
+    answers-are : (calls : List Call) → answersAfter base (lentOf f base) calls ≡ plainAnswers (length (fixupsOf f)) calls
     answers-are calls =
         let e = answers-plain base (fixTableOf f base) (marksOf f) (PAGE-SIZE * pagesOf f) only calls (imageOf f base) (image-long base) in
         rw (fixes-counted f base) at e
@@ -149,6 +159,9 @@ module _ (f : List ℕ) (c : Counts) (accepted : surveyOf f ≡ Accepted c) wher
     at-base : (calls : List Call) → AtBase f base calls
     at-base calls =
         record {
+          ranges-read = λ i l t. range-read f c accepted base (low base ok) i l t;
+          undef-read = undef-is-read f c accepted base (low base ok);
+          slots-read = λ e l. slot-is-read f c accepted base (low base ok) e l;
           count = fixes-counted f base;
           places = λ k l. place-back f base (low base ok) few placed k l;
           widths = λ k l. ap widthOf (bits-back f base (low base ok) few placed k l);
@@ -170,7 +183,7 @@ module _ (f : List ℕ) (c : Counts) (accepted : surveyOf f ≡ Accepted c) wher
               slot-keeps (slotValue f base e) (omega arith);
         }
 
-  pub demand-3 : (b₁ b₂ : ℕ) → baseOk b₁ ≡ true → baseOk b₂ ≡ true → (calls : List Call) → Demand3 f b₁ b₂ calls
+  pub demand-3 : (b₁ b₂ : ℕ) → baseOk b₁ ≡ true → baseOk b₂ ≡ true → (calls : List Call) → Demand3 f b₁ b₂ (lentOf f b₁) (lentOf f b₂) calls
   demand-3 b₁ b₂ o₁ o₂ calls =
       record {
         one = at-base b₁ o₁ calls;

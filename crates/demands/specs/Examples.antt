@@ -19,17 +19,18 @@ use Rattle.object.specs.Section.{fileStart, fileEnd, extended, relocationRecord
 use Rattle.kinds.specs.Flags.{loadedBy}
 use Rattle.object.specs.Symbol.{leftAfter, auxiliariesLeft, primary, isSymbol}
 use Rattle.kinds.specs.Symbol.{isFunction, codeOrData, kindBy, zeroPlace, placeBy}
-use Rattle.names.specs.Bytes.{run, sameBytes}
-use Rattle.names.specs.Name.{nameBytes, symbolRun}
+use Rattle.names.specs.Bytes.{upToZero, sameBytes}
+use Rattle.names.specs.Name.{leftFrom, longSpan, spanAt}
 use Rattle.homes.specs.Home.{firstIn, isHome, homeStart, sectionHome, byNumber}
 use Rattle.layout.specs.Layout.{startAt}
 use Rattle.limits.specs.Limits.{FIXUP-BYTES, SKIP-BYTES, EXTERN-BYTES, SYMBOL-BYTES, SECTION-BYTES}
 use Rattle.externs.specs.Externs.{insertName, externRecords, externsTo}
-use Rattle.externs.specs.Puts.{putsBy, puts}
+use Rattle.codes.specs.Puts.{putsBy, puts}
 use Rattle.externs.specs.Slot.{slotFrom}
 use Rattle.fixups.specs.Lists.{overRecords, overSections, fixAtRecord}
-use Rattle.fixups.specs.Outcome.{byKind, resolved, bySymbol, ofHome, atHome, outcome}
-use Rattle.targets.specs.Target.{homeTarget, slotTarget, dataTarget, targetBy}
+use Rattle.fixups.specs.Outcome.{byKind, resolved, byHome, outcome}
+use Rattle.targets.specs.Target.{homeTarget, slotTarget, ruleTarget, targetOf}
+use Rattle.object.specs.Relocation.{relocationIn}
 use Rattle.survey.specs.declared.answer.Counts.{Counts}
 use Rattle.survey.specs.declared.answer.Survey.the-variants.{Accepted}
 use Rattle.survey.specs.Survey.{firstFailed, checks, counts, surveyOf}
@@ -40,12 +41,12 @@ use Rattle.load.specs.declared.answer.Load.{Load}
 use Rattle.load.specs.declared.answer.Load.the-variants as load
 use Rattle.load.specs.Load.{Storage, layoutRoom, listsRoom, roomOk, stored, loadChecks, loadAnswer, Loads}
 use Rattle.load.specs.Loading.{storage}
-use Rattle.demands.specs.Calls.{Call, afterCalls}
+use Rattle.demands.specs.Calls.{Call}
 use Rattle.demands.specs.Origin.{fixupAt, fixupValue}
-use Rattle.demands.specs.Demand2.{standardValue, From, standard-of-file}
-use Rattle.demands.specs.Demand3.{Demand3}
-use Rattle.demands.specs.Loaded.{Lends, load-lends, load-demand-3}
-use Rattle.demands.specs.Running.{FromOrigins, runs-are}
+use Rattle.demands.specs.Demand2.{standardAt, From, Stays, standard-of-file}
+use Rattle.demands.specs.Demand3.{imageAfter, answersAfter, Demand3}
+use Rattle.demands.specs.Loaded.{Lends, load-lends, lentFrom, load-demand-3}
+use Rattle.demands.specs.Running.{RunOfLoad, runs-are}
 use Rattle.demands.specs.Table.{smallObject, smallWith, smallCounts, table}
 use Rattle.demands.specs.Demand1.{FirstFailure, survey-refuses, Refuses, load-refuses, load-does}
 
@@ -101,46 +102,51 @@ accepted-loads f base s c a b r =
     let d = load-does f base s (leftBy f base s) c a b r (loadSays f base s) (loads-exists f base s) in
     record { says = sym (d .says); leaves = sym (d .leaves) }
 
--- so is the small object at 0x20000000
+-- so is the small object, at 0x20000000 and at the highest base
 abbrev pub smallStorage : Storage
 smallStorage = roomy smallCounts
 
-abbrev pub smallLeft : Storage
-smallLeft = stored smallObject (headerOf smallObject) 0x20000000 smallStorage
+abbrev pub smallLeft : ℕ → Storage
+smallLeft base = stored smallObject (headerOf smallObject) base smallStorage
 
 small-base : baseOk 0x20000000 ≡ true
 unfolding baseOk
 small-base = refl
 
-pub small-loads : Loads smallObject 0x20000000 smallStorage smallLeft (load.Loaded smallCounts)
+pub small-loads : Loads smallObject 0x20000000 smallStorage (smallLeft 0x20000000) (load.Loaded smallCounts)
 small-loads = accepted-loads smallObject 0x20000000 smallStorage smallCounts (table .small) small-base (roomy-fits smallCounts)
 
-pub small-lends : Lends smallObject 0x20000000 smallLeft smallCounts
-small-lends = load-lends smallObject 0x20000000 smallStorage smallLeft smallCounts small-loads
+pub small-loads-highest : Loads smallObject 0x7F000000 smallStorage (smallLeft 0x7F000000) (load.Loaded smallCounts)
+small-loads-highest = accepted-loads smallObject 0x7F000000 smallStorage smallCounts (table .small) (table .base-taken) (roomy-fits smallCounts)
 
--- demand 3 of that load, and of the same at the highest base
-pub small-load-demand-3 : (calls : List Call) → Demand3 smallObject 0x20000000 0x7F000000 calls
-small-load-demand-3 = load-demand-3 smallObject 0x20000000 smallStorage smallLeft smallCounts small-loads 0x7F000000 (table .base-taken)
+pub small-lends : Lends smallObject 0x20000000 (smallLeft 0x20000000) smallCounts
+small-lends = load-lends smallObject 0x20000000 smallStorage (smallLeft 0x20000000) smallCounts small-loads
 
--- ---- calls on what that load lends: every byte they leave is its origin's
-pub small-runs : (calls : List Call)
-    → FromOrigins smallObject 0x20000000 calls
-    (afterCalls 0x20000000 (part (smallLeft .marks) 0 (WORD-BYTES * wordsFor (smallCounts .pages))) (part (smallLeft .fixups) 0 (FIXUP-BYTES * smallCounts .fixups))
-    (part (smallLeft .image) 0 (PAGE-SIZE * smallCounts .pages)) calls)
-small-runs calls =
-    runs-are 0x20000000 _ _ calls _ _ refl .demand smallObject smallCounts (table .small) small-base
-    (small-lends .image) (small-lends .marks) (small-lends .fixes)
+-- demand 3 of what the two left
+pub small-load-demand-3 : (calls : List Call)
+    → Demand3 smallObject 0x20000000 0x7F000000 (lentFrom (smallLeft 0x20000000) smallCounts) (lentFrom (smallLeft 0x7F000000) smallCounts) calls
+small-load-demand-3 =
+    load-demand-3 smallObject 0x20000000 smallStorage (smallLeft 0x20000000) smallCounts small-loads 0x7F000000 smallStorage (smallLeft 0x7F000000) smallCounts small-loads-highest
 
--- ---- the small object's fixup, from relocation 0 of section 0: relative, by a symbol of value 0, over a field of zeros
-pub small-standard : (start : ℕ) → standardValue 0x20000000 (fixupAt smallObject 0) 0 0 start ≡ fixupValue smallObject 0x20000000 0
+-- ---- calls on what that load lends: every byte they leave is its origin's, and the answers are those at the highest base
+pub small-runs : (calls : List Call) (answers : List ℕ)
+    → RunOfLoad smallObject 0x20000000 calls (imageAfter 0x20000000 (lentFrom (smallLeft 0x20000000) smallCounts) calls)
+    (answersAfter 0x20000000 (lentFrom (smallLeft 0x20000000) smallCounts) calls) 0x7F000000
+small-runs calls answers =
+    runs-are 0x20000000 _ _ calls _ _ answers _ refl refl .demand smallObject smallCounts (table .small) small-base
+    (small-lends .image) (small-lends .marks) (small-lends .fixes) 0x7F000000 (table .base-taken)
+
+-- ---- the small object's fixup, from relocation 0 of section 0: relative, by an extern name of value 0, over a field of zeros, in a section that is its own home
+pub small-standard : standardAt smallObject 0 0 0x20000000 ≡ fixupValue smallObject 0x20000000 0
 unfolding pick listTo archOf get le part headerOf type32 typeOf loadedBy fileStart fileEnd
     extended relocationRecords relocationCount relocationStart isFunction codeOrData kindBy zeroPlace placeBy leftAfter auxiliariesLeft primary isSymbol
-    run sameBytes nameBytes symbolRun firstIn isHome homeStart sectionHome byNumber startAt
-    insertName externRecords externsTo putsBy puts slotFrom overRecords overSections fixAtRecord byKind resolved bySymbol ofHome atHome outcome
-    homeTarget slotTarget dataTarget targetBy
-small-standard start =
+    upToZero sameBytes leftFrom longSpan spanAt firstIn isHome homeStart sectionHome byNumber startAt
+    insertName externRecords externsTo putsBy puts slotFrom overRecords overSections fixAtRecord byKind resolved byHome outcome relocationIn ruleTarget targetOf
+    homeTarget slotTarget
+small-standard =
     let r : From smallObject (fixupAt smallObject 0) = record { section = 0; index = 0; inside = omega arith; counted = omega arith; is = refl } in
-    standard-of-file smallObject smallCounts (table .small) 0x20000000 small-base 0 (omega arith) r (inr refl) refl refl start
+    let s : Stays smallObject 0 0 = record { place-own = refl; symbol-own = tt; direct = tt; carried = inr refl; value = refl; field = refl } in
+    standard-of-file smallObject smallCounts (table .small) 0x20000000 small-base 0 (omega arith) r s
 
 -- ---- the small object has no skips, so every relocation of its loaded section is in the fix list
 pub small-all-fixed : (k : ℕ) → k < relocationCount smallObject (headerOf smallObject) 0 → IsFixed smallObject smallCounts (table .small) 0 k

@@ -3,6 +3,7 @@ pub mod Origin
 pub mod Counted
 pub mod Applying
 pub mod Mapped
+pub mod Reading
 pub mod Bytes
 pub mod Laying
 pub mod Moving

@@ -1,5 +1,5 @@
 -- What load's contract leaves is what the demands speak of: the counted parts follow from the file and the base, whatever the storage held before.
-use mathlib.Core.Path.{_≡_, sym, _∙_}
+use mathlib.Core.Path.{_≡_, sym, subst, _∙_}
 use mathlib.Core.Bool.{true}
 use mathlib.Core.List.{List}
 use Prim.Native.Nat.{ℕ, _*_, _≤_, _<_}
@@ -24,7 +24,7 @@ use Rattle.load.specs.Load.{Storage, Loads}
 use Rattle.load.specs.LoadLaws.{load-accepts, load-leaves, rooms, pages-counted}
 use Rattle.demands.specs.Origin.{slotsOf}
 use Rattle.demands.specs.Calls.{Call}
-use Rattle.demands.specs.Counted.{pagesOf, imageOf, marksOf, fixTableOf, sectionsOf, externsOf}
+use Rattle.demands.specs.Counted.{pagesOf, imageOf, marksOf, fixTableOf, sectionsOf, externsOf, Lent, lent, lentOf}
 use Rattle.demands.specs.Demand3.{Demand3, demand-3}
 use Rattle.demands.specs.Laying.{laid-byte}
 
@@ -76,9 +76,22 @@ load-lends f base s s′ c loads =
       externs = l .externs .counted;
     }
 
--- ---- demand 3 with load's own accepted answer for its hypothesis, and the same load at any other allowed base
-pub load-demand-3 : (f : List ℕ) (base : ℕ) (s s′ : Storage) (c : Counts) → Loads f base s s′ (Loaded c)
-    → (b₂ : ℕ) → baseOk b₂ ≡ true → (calls : List Call) → Demand3 f base b₂ calls
-load-demand-3 f base s s′ c loads b₂ ok calls =
-    let l = load-lends f base s s′ c loads in
-    demand-3 f c (l .accepted) base b₂ (l .allowed) ok calls
+-- ---- demand 3 of what two accepted loads of the file left in their storage, at any two bases
+-- the counted parts of the storage
+abbrev pub lentFrom : Storage → Counts → Lent
+lentFrom s c =
+    lent (part (s .image) 0 (PAGE-SIZE * c .pages)) (part (s .marks) 0 (WORD-BYTES * wordsFor (c .pages))) (part (s .fixups) 0 (FIXUP-BYTES * c .fixups))
+    (part (s .sections) 0 (SECTION-BYTES * c .sections)) (part (s .externs) 0 (EXTERN-BYTES * c .externs))
+
+lent-is : (f : List ℕ) (base : ℕ) (s : Storage) (c : Counts) → Lends f base s c → lentFrom s c ≡ lentOf f base
+lent-is f base s c l = rw (l .image, l .marks, l .fixes, l .sections, l .externs)
+
+pub load-demand-3 : (f : List ℕ) (b₁ : ℕ) (s₁ s₁′ : Storage) (c₁ : Counts) → Loads f b₁ s₁ s₁′ (Loaded c₁)
+    → (b₂ : ℕ) (s₂ s₂′ : Storage) (c₂ : Counts) → Loads f b₂ s₂ s₂′ (Loaded c₂)
+    → (calls : List Call) → Demand3 f b₁ b₂ (lentFrom s₁′ c₁) (lentFrom s₂′ c₂) calls
+load-demand-3 f b₁ s₁ s₁′ c₁ loads₁ b₂ s₂ s₂′ c₂ loads₂ calls =
+    let l = load-lends f b₁ s₁ s₁′ c₁ loads₁ in
+    let m = load-lends f b₂ s₂ s₂′ c₂ loads₂ in
+    subst (λ (t : Lent). Demand3 f b₁ b₂ t (lentFrom s₂′ c₂) calls) (sym (lent-is f b₁ s₁′ c₁ l))
+    (subst (λ (t : Lent). Demand3 f b₁ b₂ (lentOf f b₁) t calls) (sym (lent-is f b₂ s₂′ c₂ m))
+    (demand-3 f c₁ (l .accepted) b₁ b₂ (l .allowed) (m .allowed) calls))

@@ -32,7 +32,7 @@ use Rattle.demands.specs.Counted.{pagesOf, marksOf, fixTableOf}
 use Rattle.demands.specs.Applying.{plainCode}
 
 -- a run put over itself
-splice-self : (l : List ℕ) → splice l 0 l ≡ l
+pub splice-self : (l : List ℕ) → splice l 0 l ≡ l
 splice-self l = splice-front l l (omega arith) ∙ ap (λ (t : List ℕ). l ++ t) (drop-length l) ∙ append-nil l
 
 -- ---- the fix list, read back

@@ -10,7 +10,7 @@ use Rattle.arch.specs.Address.{rva}
 use Rattle.survey.specs.declared.answer.Counts.{Counts}
 use Rattle.survey.specs.declared.answer.Survey.the-variants.{Accepted, Refused}
 use Rattle.survey.specs.Survey.{surveyOf, externChecks, firstFailed, countsBy, answerBy}
-use Rattle.fixups.specs.Outcome.{fixOf, byKind, resolved, bySymbol, ofHome, atHome, outcome}
+use Rattle.fixups.specs.Outcome.{fixOf, byKind, resolved, byHome, outcome}
 use Rattle.tables.specs.Sections.{sectionWords, undefWords}
 use Rattle.symbol_table.specs.Symbols.{symbolWords}
 use Rattle.tables.specs.Externs.{externWords}
@@ -20,8 +20,10 @@ use Rattle.layout.specs.Layout.{undefStart, nextStart, startAt, startsTo}
 use Rattle.good_names.specs.GoodNames.{namesOk}
 use Rattle.checks.specs.Checks.{baseOk}
 use Rattle.load.specs.Load.{Storage, loadChecks}
-use Rattle.demands.specs.Calls.{Call, patch, upFrom, appliedBy, applied}
-use Rattle.demands.specs.Origin.{fixupAt, slotValue, undefAddress, covers, latest, originBy, byteOf}
+use Rattle.demands.specs.Calls.{Call, patch, asked, appliedBy, applied}
+use Rattle.demands.specs.Origin.{fixupAt, fixupValue, slotValue, undefAddress, covers, latest, originBy, byteOf}
+use Rattle.demands.specs.Counted.{lentOf}
+use Rattle.demands.specs.Demand2.{standardValue, standardAt}
 use Rattle.demands.specs.Demand3.{imageAfter, Demand3, demand-3}
 use Rattle.util.specs.Align.{roundUp}
 use Rattle.util.specs.Pick.{pick}
@@ -34,15 +36,18 @@ use Rattle.object.specs.Section.{fileStart, fileEnd, rangeLength, extended, rel
 use Rattle.kinds.specs.Flags.{loadedBy, alignOf, permissionsBy}
 use Rattle.object.specs.Symbol.{okAt, leftAfter, auxiliariesLeft, primary, isSymbol}
 use Rattle.kinds.specs.Symbol.{isFunction, codeOrData, staticKind, kindBy, zeroPlace, placeBy, listedBy}
-use Rattle.names.specs.Bytes.{run, goodSectionName, goodSymbolName, decimalTo, compareBytes, sameBytes}
-use Rattle.names.specs.Name.{nameBytes, longRun, symbolRun, slashRun, sectionRun, checked}
-use Rattle.homes.specs.Home.{firstIn, isHome, loadedNamed, homeStart, homeRecord, sectionHome, byNumber, homeRecords}
+use Rattle.words.specs.Picked.{chosen}
+use Rattle.names.specs.Bytes.{run, upToZero, goodSectionName, goodSymbolName, decimalTo, compareBytes, sameBytes}
+use Rattle.names.specs.Name.{nameBytes, longRun, symbolRun, slashRun, sectionRun, checked, leftFrom, longSpan, spanAt}
+use Rattle.homes.specs.declared.Home.the-variants.{Loaded}
+use Rattle.homes.specs.Home.{firstIn, isHome, homeOf, loadedNamed, homeStart, homeRecord, sectionHome, byNumber, homeRecords}
 use Rattle.bounds.specs.Bounds.{sizeOk, sectionTableOk, stringsOk, symbolTableOk, bytesOk, dataOk, relocationsOk, sectionsOk}
-use Rattle.externs.specs.Puts.{putsBy, puts}
+use Rattle.codes.specs.Puts.{putsBy, puts}
 use Rattle.externs.specs.Slot.{slotFrom}
 use Rattle.fixups.specs.Lists.{overRecords, overSections, fixAtRecord, skipAtRecord}
 use Rattle.fixups.specs.Tally.{passes, countIn, tallyOf}
-use Rattle.targets.specs.Target.{homeTarget, slotTarget, namedTarget, labelTarget, dataTarget, sectionTarget, targetBy}
+use Rattle.targets.specs.Target.{homeTarget, slotTarget, namedTarget, ruleTarget, targetOf}
+use Rattle.object.specs.Relocation.{relocationIn}
 use Rattle.fixups.specs.Value.{valueOf}
 use Rattle.homes.specs.Listed.{ofPlace, offsetFrom, listed}
 
@@ -76,6 +81,18 @@ sized size code =
 
 abbrev pub rangeOf : List ℕ → ℕ
 rangeOf f = rangeLength f (headerOf f) 0
+
+-- ---- an i386 object of two uninitialised sections; the first has a relocation, of type 6 at its start, by a symbol at the start of the second
+abbrev pub twoUninitialized : List ℕ
+twoUninitialized =
+    0x4C ∷ 0x01 ∷ 2 ∷ 0 ∷ 0 ∷ 0 ∷ 0 ∷ 0 ∷ 110 ∷ 0 ∷ 0 ∷ 0 ∷ 1 ∷ 0 ∷ 0 ∷ 0 ∷ 0 ∷ 0 ∷ 0 ∷ 0
+    ∷ 46 ∷ 98 ∷ 115 ∷ 115 ∷ 0 ∷ 0 ∷ 0 ∷ 0 ∷ 0 ∷ 0 ∷ 0 ∷ 0 ∷ 0 ∷ 0 ∷ 0 ∷ 0 ∷ 16 ∷ 0 ∷ 0 ∷ 0
+    ∷ 0 ∷ 0 ∷ 0 ∷ 0 ∷ 100 ∷ 0 ∷ 0 ∷ 0 ∷ 0 ∷ 0 ∷ 0 ∷ 0 ∷ 1 ∷ 0 ∷ 0 ∷ 0 ∷ 0x80 ∷ 0 ∷ 0x10 ∷ 0xC0
+    ∷ 46 ∷ 98 ∷ 115 ∷ 115 ∷ 0 ∷ 0 ∷ 0 ∷ 0 ∷ 0 ∷ 0 ∷ 0 ∷ 0 ∷ 0 ∷ 0 ∷ 0 ∷ 0 ∷ 16 ∷ 0 ∷ 0 ∷ 0
+    ∷ 0 ∷ 0 ∷ 0 ∷ 0 ∷ 0 ∷ 0 ∷ 0 ∷ 0 ∷ 0 ∷ 0 ∷ 0 ∷ 0 ∷ 0 ∷ 0 ∷ 0 ∷ 0 ∷ 0x80 ∷ 0 ∷ 0x10 ∷ 0xC0
+    ∷ 0 ∷ 0 ∷ 0 ∷ 0 ∷ 0 ∷ 0 ∷ 0 ∷ 0 ∷ 6 ∷ 0
+    ∷ 95 ∷ 98 ∷ 115 ∷ 115 ∷ 0 ∷ 0 ∷ 0 ∷ 0 ∷ 0 ∷ 0 ∷ 0 ∷ 0 ∷ 2 ∷ 0 ∷ 0 ∷ 0 ∷ 3 ∷ 0
+    ∷ 4 ∷ 0 ∷ 0 ∷ 0 ∷ []
 
 -- pages, records of the section table, symbols, externs, fixups; the file's sections, symbol records, relocations
 abbrev pub countsWith : ℕ → ℕ → ℕ → ℕ → ℕ → ℕ → ℕ → ℕ → Counts
@@ -133,10 +150,10 @@ pub record Table : Type 0 where
 pub table : Table
 unfolding roundUp pick allTo anyTo sumTo countTo listTo archOf get le part headerOf stringLength type32 type64 typeOf loadedBy alignOf permissionsBy fileStart fileEnd
     rangeLength extended relocationRecords relocationCount relocationStart isFunction codeOrData staticKind kindBy zeroPlace placeBy listedBy primary
-    run goodSectionName goodSymbolName decimalTo compareBytes sameBytes nameBytes longRun symbolRun slashRun sectionRun checked firstIn isHome
+    run upToZero goodSectionName goodSymbolName decimalTo compareBytes sameBytes nameBytes longRun symbolRun slashRun sectionRun checked leftFrom longSpan spanAt firstIn isHome
     loadedNamed homeStart homeRecord sectionHome byNumber nextStart startAt sizeOk sectionTableOk stringsOk symbolTableOk bytesOk dataOk relocationsOk sectionsOk
-    okAt namesOk insertName externRecords externsTo putsBy puts slotFrom overSections fixAtRecord skipAtRecord byKind resolved bySymbol ofHome atHome outcome
-    passes tallyOf homeTarget slotTarget namedTarget labelTarget dataTarget sectionTarget targetBy valueOf ofPlace offsetFrom listed firstFailed countsBy answerBy
+    okAt namesOk insertName externRecords externsTo putsBy puts slotFrom overSections fixAtRecord skipAtRecord byKind resolved byHome outcome relocationIn ruleTarget targetOf
+    passes tallyOf homeTarget slotTarget namedTarget valueOf ofPlace offsetFrom listed firstFailed countsBy answerBy
     overRecords countIn leftAfter auxiliariesLeft isSymbol sectionWords symbolWords
     externWords fixWords baseOk
 table =
@@ -166,19 +183,38 @@ table =
     }
 
 -- ---- demand 3 of the small object, so that its hypotheses are met: any calls, at the lowest and the highest base
-pub small-demand-3 : (calls : List Call) → Demand3 smallObject 0 0x7F000000 calls
+pub small-demand-3 : (calls : List Call) → Demand3 smallObject 0 0x7F000000 (lentOf smallObject 0) (lentOf smallObject 0x7F000000) calls
 unfolding baseOk
 small-demand-3 calls = demand-3 smallObject smallCounts (table .small) 0 0x7F000000 refl refl calls
 
 -- patched fully at 0x20000000, the first byte of its call's field is the value's lowest
-pub small-patched : getD (imageAfter smallObject 0x20000000 (patch 1 0 ∷ [])) 1 0 ≡ 0xFB
+pub small-patched : getD (imageAfter 0x20000000 (lentOf smallObject 0x20000000) (patch 1 0 ∷ [])) 1 0 ≡ 0xFB
 unfolding roundUp pick allTo anyTo sumTo countTo listTo archOf get le part headerOf stringLength type32 type64 typeOf loadedBy alignOf permissionsBy fileStart fileEnd
     rangeLength extended relocationRecords relocationCount relocationStart isFunction codeOrData staticKind kindBy zeroPlace placeBy listedBy primary
-    run goodSectionName goodSymbolName decimalTo compareBytes sameBytes nameBytes longRun symbolRun slashRun sectionRun checked firstIn isHome
+    run upToZero goodSectionName goodSymbolName decimalTo compareBytes sameBytes nameBytes longRun symbolRun slashRun sectionRun checked leftFrom longSpan spanAt firstIn isHome
     loadedNamed homeStart homeRecord sectionHome byNumber nextStart startAt sizeOk sectionTableOk stringsOk symbolTableOk bytesOk dataOk relocationsOk sectionsOk
-    okAt namesOk insertName externRecords externsTo putsBy puts slotFrom overSections fixAtRecord skipAtRecord byKind resolved bySymbol ofHome atHome outcome
-    passes tallyOf homeTarget slotTarget namedTarget labelTarget dataTarget sectionTarget targetBy valueOf ofPlace offsetFrom listed firstFailed countsBy answerBy
+    okAt namesOk insertName externRecords externsTo putsBy puts slotFrom overSections fixAtRecord skipAtRecord byKind resolved byHome outcome relocationIn ruleTarget targetOf
+    passes tallyOf homeTarget slotTarget namedTarget valueOf ofPlace offsetFrom listed firstFailed countsBy answerBy
     overRecords countIn leftAfter auxiliariesLeft isSymbol sectionWords symbolWords
     externWords fixWords baseOk
-    appliedBy applied upFrom covers latest originBy byteOf
+    chosen asked appliedBy applied covers latest originBy byteOf
 small-patched = demand-3 smallObject smallCounts (table .small) 0x20000000 0x20000000 refl refl (patch 1 0 ∷ []) .one .bytes 1 (omega arith)
+
+-- ---- where a section is not its own home the standard's value is another: two uninitialised sections share the first one's start
+pub record SharedHome : Type 0 where
+  pub accepted : surveyOf twoUninitialized ≡ Accepted (countsWith 4 3 1 0 1 2 1 1)
+  pub home : homeOf twoUninitialized (headerOf twoUninitialized) 1 ≡ Loaded 0
+  pub start : startAt twoUninitialized (headerOf twoUninitialized) 1 ≡ 0x1000
+  pub ours : fixupValue twoUninitialized 0x20000000 0 ≡ 0x20000000
+  pub standard : standardAt twoUninitialized 0 0 0x20000000 ≡ 0x20001000
+
+pub shared-home : SharedHome
+unfolding roundUp pick allTo anyTo sumTo countTo listTo archOf get le part headerOf stringLength type32 type64 typeOf loadedBy alignOf permissionsBy fileStart fileEnd
+    rangeLength extended relocationRecords relocationCount relocationStart isFunction codeOrData staticKind kindBy zeroPlace placeBy listedBy primary
+    run upToZero goodSectionName goodSymbolName decimalTo compareBytes sameBytes nameBytes longRun symbolRun slashRun sectionRun checked leftFrom longSpan spanAt firstIn isHome
+    loadedNamed homeStart homeRecord sectionHome byNumber nextStart startAt sizeOk sectionTableOk stringsOk symbolTableOk bytesOk dataOk relocationsOk sectionsOk
+    okAt namesOk insertName externRecords externsTo putsBy puts slotFrom overSections fixAtRecord skipAtRecord byKind resolved byHome outcome relocationIn ruleTarget targetOf
+    passes tallyOf homeTarget slotTarget namedTarget valueOf ofPlace offsetFrom listed firstFailed countsBy answerBy
+    overRecords countIn leftAfter auxiliariesLeft isSymbol sectionWords symbolWords
+    externWords fixWords baseOk standardValue
+shared-home = record { accepted = refl; home = refl; start = refl; ours = refl; standard = refl }

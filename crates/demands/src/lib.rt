@@ -2,32 +2,74 @@
 use arch::VA;
 use patch::Patch;
 ghost use mathlib.Core.Path.{_≡_};
-ghost use Prim.Native.Nat.{_*_, _+_, _≤_};
+ghost use Prim.Native.Nat.{_*_, _+_, _≤_, min};
 ghost use lib.ListN.{length};
-ghost use Rattle.demands.specs.Calls.{afterCall};
-ghost use Rattle.demands.specs.Running.{CALL-BYTES, callAt, callsIn, Runs};
+ghost use Rattle.util.specs.Pick.{pick};
+ghost use Rattle.le.specs.Le.{splice};
+ghost use Rattle.words.specs.Words.{wordBytes};
+ghost use Rattle.demands.specs.Running.{ANSWER-BYTES, callAt, callsIn, answerWords, RunsCall, Runs};
 
-// The bytes of a call.
+// The bytes of a call, and of its answer.
 const CALL_BYTES: usize = 16;
 
-fn run_call(base: VA, image: &mut [u8], marks: &[u8], fixes: &[u8], calls: &[u8], k: usize)
-    requires { ⌜ CALL-BYTES * k + CALL-BYTES ≤ length (now calls) ⌝ }
+const ANSWER_BYTES: usize = 24;
+
+fn flag(done: bool) -> u64
+    ensures { λ r. ⌜ r ≡ pick done 1 0 ⌝ }
+{
+    if done { 1 } else { 0 }
+}
+
+fn write_answer(answer: Patch, answers: &mut [u8], at: usize)
+    ensures { λ _. ⌜ now (answers .exit) ≡ splice (now (answers .entry)) at (wordBytes (answerWords answer)) ⌝ }
+{
+    match answer {
+        Patch::Applied(p) => {
+            let ws = [0, p.position, flag(p.done)];
+            words::put(answers, at, &ws);
+        }
+        Patch::Refused(number) => {
+            let ws = [number, 0, 0];
+            words::put(answers, at, &ws);
+        }
+    }
+}
+
+fn run_call(
+    base: VA,
+    image: &mut [u8],
+    marks: &[u8],
+    fixes: &[u8],
+    calls: &[u8],
+    answers: &mut [u8],
+    k: usize,
+)
+    requires { ⌜ ANSWER-BYTES * k + ANSWER-BYTES ≤ length (now answers) ⌝ }
     ensures { λ _.
-        ⌜ now (image .exit) ≡ afterCall (base .0) (now (marks .entry)) (now (fixes .entry)) (now (image .entry)) (callAt (now (calls .entry)) k) ⌝ }
+        ⌜ RunsCall (base .0) (now (marks .entry)) (now (fixes .entry)) (callAt (now (calls .entry)) k) (ANSWER-BYTES * k) (now (image .entry)) (now (image .exit)) (now (answers .entry)) (now (answers .exit)) ⌝ }
 {
     let number = le::u64_at(calls, CALL_BYTES * k);
     let position = le::u64_at(calls, CALL_BYTES * k + 8);
     let answer = patch::patch(base, image, marks, fixes, number, position);
+    write_answer(answer, answers, ANSWER_BYTES * k);
 }
 
-// Patches by each call in turn, refused ones among them. A call is two words: how many fixups, and from which position.
-pub fn run(base: VA, image: &mut [u8], marks: &[u8], fixes: &[u8], calls: &[u8])
-    ensures { λ _. ⌜ Runs (base .0) (now (marks .entry)) (now (fixes .entry)) (callsIn (now (calls .entry))) (now (image .entry)) (now (image .exit)) ⌝ }
+fn least(a: usize, b: usize) -> usize
+    ensures { λ r. ⌜ r ≡ min a b ⌝ }
 {
-    let n = calls.len() / CALL_BYTES;
+    if a < b { a } else { b }
+}
+
+// Patches by each call in turn, refused ones among them, and writes each answer. A call is two words: how many fixups, and from which position; an
+// answer three: 0, the new position and whether all are done, or the refusal's number. Calls without room for their answer are not made.
+pub fn run(base: VA, image: &mut [u8], marks: &[u8], fixes: &[u8], calls: &[u8], answers: &mut [u8])
+    ensures { λ _.
+        ⌜ Runs (base .0) (now (marks .entry)) (now (fixes .entry)) (callsIn (now (calls .entry)) (length (now (answers .entry)))) (now (image .entry)) (now (image .exit)) (now (answers .entry)) (now (answers .exit)) ⌝ }
+{
+    let n = least(calls.len() / CALL_BYTES, answers.len() / ANSWER_BYTES);
     let mut k: usize = 0;
     while k < n {
-        run_call(base, image, marks, fixes, calls, k);
+        run_call(base, image, marks, fixes, calls, answers, k);
         k += 1;
     }
 }

@@ -1,35 +1,45 @@
 -- The ways through the readers, and the loops over the list of externs. Assumes nothing.
-use Rattle.le.specs.Le.{splice, splice-next}
+use Rattle.le.specs.Le.{splice, part, splice-next, splice-above, fill-none, fill-again, fill-end, IsBytes}
 use mathlib.Core.Path.{_≡_, refl, sym, ap, _∙_}
 use mathlib.Core.Bool.{Bool, true, false, not}
 use mathlib.Core.List.{List, [], _∷_, _++_, append-assoc, append-nil}
-use mathlib.Core.Logic.{⊎-elim}
-use Prim.Native.Nat.{ℕ, zero, suc, _+_, _-_, _/_, _≤_, _<_, min}
-use native.Mathlib.Nat.{not-suc-le-zero}
+use mathlib.Core.Logic.{_⊎_, inl, inr, ⊎-elim}
+use Prim.Native.Nat.{ℕ, zero, suc, _+_, _-_, _/_, _%_, _≤_, _<_, min}
+use native.Mathlib.Nat.{not-suc-le-zero, le-of-suc-le-suc}
 use native.Mathlib.Numerals.{add-one, sub-one}
 use native.Mathlib.Omega.{arith}
-use borrow.Author.Tests.{eq-eqb, ne-eqb, lt-leb, le-leb}
-use lib.Dec.{eqb, leb}
-use lib.ListN.{length, getD, take, drop, set, length-append, length-drop, drop-of-length-le, length-set, replicate, length-replicate, length-take, replicate-append-replicate}
+use borrow.Author.Tests.{eq-eqb, ne-eqb, eqb-true, lt-ltb, le-ltb, lt-leb, le-leb}
+use lib.Dec.{eqb, ltb, leb}
+use lib.ListN.{length, getD, take, drop, set, getD-replicate, List·getD-eq-default, length-append, length-drop, drop-of-length-le, length-set, replicate, length-replicate, length-take, replicate-append-replicate}
 use lib.Seq.{drop-cons, take-suc, take-take, length-take-le, getD-take, take-set-le, take-set-lt, drop-set-lt, getD-set-same, set-split, split-at, take-at, append-snoc, sets-eq}
 use Rattle.util.specs.Pick.{pick, le-or-lt}
+use Rattle.util.specs.Prefix.{length-list}
 use Rattle.object.specs.declared.Header.{Header}
-use Rattle.kinds.specs.declared.SymbolKind.{SymbolKind}
-use Rattle.kinds.specs.declared.SymbolKind.the-variants.{Unknown, Text, Data, Section, File, Label}
-use Rattle.kinds.specs.declared.Place.{Place}
 use Rattle.object.specs.Section.{relocationCount}
-use Rattle.object.specs.Symbol.{kind, symbolPlace}
-use Rattle.object.specs.Relocation.{relocationSymbol}
+use Rattle.object.specs.declared.Records.{Records}
+use Rattle.object.specs.declared.Relocation.{Relocation}
+use Rattle.object.specs.Relocation.{relocationSymbol, relocationIn, recordsOf, recordAt, count-read, symbol-read}
 use Rattle.names.specs.declared.Order.{Order}
 use Rattle.names.specs.declared.Order.the-variants.{Less, Equal, Greater}
 use Rattle.names.specs.Bytes.{sameBytes, compareBytes}
-use Rattle.names.specs.Name.{symbolText}
-use Rattle.externs.specs.Puts.{someSectionNamed, outside, missing, isCommon, putsBy, putsName, puts}
+use Rattle.names.specs.declared.Span.{Span}
+use Rattle.names.specs.Name.{symbolText, symbolSpan, spanText}
+use Rattle.order.specs.Key.{KEY-BYTES, key}
+use Rattle.order.specs.KeyLaws.{key-less, key-greater}
+use mir.Val.{Fits}
+use mir.Syntax.{w8}
 use Rattle.limits.specs.Limits.{MAX-EXTERNS, EXTERN-ROOM}
-use Rattle.externs.specs.Externs.{insertName, externRecords, externsTo, Holds, namesOf, slotWords}
+use Rattle.externs.specs.Externs.{orderOf, insertName, externRecords, externsTo, Holds, namesOf, slotWords}
 use Rattle.externs.specs.ExternLaws.{records-grow, sections-grow, over-length, count-room, count-list}
 use Rattle.externs.specs.Held.{held, putAt, lowerAt, Placed, Inserted}
+use Rattle.externs.specs.Keys.{symbolKey, keysOf, InStep, PutBoth, Skipped}
 use Rattle.externs.specs.Bisect.{nameOrder, bySide, halves}
+use Rattle.externs.specs.BisectLaws.{bisect-slot}
+use Rattle.externs.specs.Inserting.{Rising, min-name, rise, keep, put-in, put-again}
+use Rattle.externs.specs.Seen.{SEEN, NOTED, isSeen, noted, Seen, Kept, KeptFor}
+use Rattle.externs.specs.Slot.{slotOf}
+use Rattle.externs.specs.Slotted.{foundCode, takesSlot, slottedCode, slottedAt, slottedTo, slotted, codesAfter}
+use Rattle.codes.specs.Code.{NO-SLOT, SPAN, SLOTS}
 use Rattle.externs.specs.declared.Names.{Names}
 use Rattle.externs.specs.declared.Names.the-variants.{TooMany, Count}
 use Rattle.externs.specs.declared.Spot.{Spot}
@@ -37,54 +47,13 @@ use Rattle.externs.specs.declared.Spot.the-variants.{Before, Present}
 use Rattle.externs.specs.declared.Found.{Found}
 use Rattle.externs.specs.declared.Found.the-variants.{Index, Nothing}
 
--- ---- which relocations put a name
-
-module _ (f : List ℕ) (h : Header) (j : ℕ) (k : SymbolKind) (p : Place) (is : k ≡ kind f h j) (at : p ≡ symbolPlace f h j) where
-  pub name-data : (b : Bool) → k ≡ Data → b ≡ outside p → b ≡ putsName f h j
-  unfolding putsBy
-  name-data b e q = rw (← is, ← at, e) q
-
-  pub name-text : (b : Bool) → k ≡ Text → b ≡ outside p → b ≡ putsName f h j
-  unfolding putsBy
-  name-text b e q = rw (← is, ← at, e) q
-
-  pub name-missing : (b c : Bool) (s : List ℕ) → k ≡ Section → b ≡ missing p → b ≡ true → s ≡ symbolText f h j → c ≡ someSectionNamed f h s → not c ≡ putsName f h j
-  unfolding putsBy
-  name-missing b c s e q t w r = rw (← is, ← at, ← w, ← r, e, ← q, t)
-
-  pub name-section : (b : Bool) → k ≡ Section → b ≡ missing p → b ≡ false → false ≡ putsName f h j
-  unfolding putsBy
-  name-section b e q t = rw (← is, ← at, e, ← q, t)
-
-  pub name-unknown : (b : Bool) → k ≡ Unknown → b ≡ isCommon p → b ≡ putsName f h j
-  unfolding putsBy
-  name-unknown b e q = rw (← is, ← at, e) q
-
-module _ (f : List ℕ) (h : Header) (j : ℕ) (k : SymbolKind) (is : k ≡ kind f h j) where
-  pub name-file : k ≡ File → false ≡ putsName f h j
-  unfolding putsBy
-  name-file e = rw (← is, e)
-
-  pub name-label : k ≡ Label → false ≡ putsName f h j
-  unfolding putsBy
-  name-label e = rw (← is, e)
-
-module _ (f : List ℕ) (h : Header) (own : ℕ → Bool) (i k j : ℕ) (o : Bool) (is : j ≡ relocationSymbol f h i k) (mine : o ≡ own j) where
-  pub puts-own : (b : Bool) → o ≡ true → b ≡ putsName f h j → b ≡ puts f h own i k
-  unfolding puts
-  puts-own b t q = rw (← is, ← mine, t) q
-
-  pub puts-other : o ≡ false → false ≡ puts f h own i k
-  unfolding puts
-  puts-other t = rw (← is, ← mine, t)
-
-pub ruleset name-ways = (name-data, name-text, name-missing, name-section, name-unknown, name-file, name-label)
-
-pub ruleset put-ways = (puts-own, puts-other)
-
 -- ---- the place of j: the names of xs before i all come before j's
 unfoldable pub Passed : List ℕ → Header → ℕ → List ℕ → ℕ → Type 0
 Passed f h j xs i = insertName f h j xs ≡ take i xs ++ insertName f h j (drop i xs)
+
+pub held-length : (n : ℕ) (l : List ℕ) → n ≤ length l → length (held n l) ≡ n
+unfolding held
+held-length n l h = length-take-le n l h
 
 module _ (l : List ℕ) (n i : ℕ) (h : i < n) (room : n ≤ length l) where
   at-held : drop i (held n l) ≡ getD l i 0 ∷ drop (suc i) (held n l)
@@ -106,14 +75,14 @@ module _ (f : List ℕ) (h : Header) (j : ℕ) where
   unfolding Passed
   spot-none xs = refl
 
-  module _ (l : List ℕ) (n i : ℕ) (r : Order) (name : List ℕ) (is : name ≡ symbolText f h j) where
-    pub spot-less : i < n → n ≤ length l → r ≡ nameOrder f h name (getD l i 0) → r ≡ Less → Passed f h j (held n l) i
+  module _ (l : List ℕ) (n i : ℕ) (r : Order) (name : Span) (is : name ≡ symbolSpan f h j) where
+    pub spot-less : i < n → n ≤ length l → r ≡ nameOrder f h (spanText f name) (getD l i 0) → r ≡ Less → Passed f h j (held n l) i
         → insertName f h j (held n l) ≡ putAt i j (held n l)
     unfolding Passed putAt insertName
     spot-less k room e z q =
         q ∙ ap (λ (ys : List ℕ). take i (held n l) ++ ys) (simp (at-held l n i k room, sym (rw is at e) ∙ z))
 
-    pub spot-same : i < n → n ≤ length l → r ≡ nameOrder f h name (getD l i 0) → r ≡ Equal → Passed f h j (held n l) i
+    pub spot-same : i < n → n ≤ length l → r ≡ nameOrder f h (spanText f name) (getD l i 0) → r ≡ Equal → Passed f h j (held n l) i
         → insertName f h j (held n l) ≡ lowerAt i j (held n l)
     unfolding Passed lowerAt insertName
     spot-same k room e z q =
@@ -121,7 +90,10 @@ module _ (f : List ℕ) (h : Header) (j : ℕ) where
         simp (at-held l n i k room, sym (rw is at e) ∙ z) in
         q ∙ ap (λ (ys : List ℕ). take i (held n l) ++ ys) (y ∙ ap (λ (x : ℕ). min j x ∷ drop (suc i) (held n l)) (sym (get-held l n i k room)))
 
-    pub spot-more : i < n → n ≤ length l → r ≡ nameOrder f h name (getD l i 0) → r ≡ Greater → Passed f h j (held n l) i
+    pub spot-equal : i < n → n ≤ length l → r ≡ nameOrder f h (spanText f name) (getD l i 0) → r ≡ Equal → orderOf f h j (getD (held n l) i 0) ≡ Equal
+    spot-equal k room e z = rw (get-held l n i k room) (sym (rw is at e) ∙ z)
+
+    pub spot-more : i < n → n ≤ length l → r ≡ nameOrder f h (spanText f name) (getD l i 0) → r ≡ Greater → Passed f h j (held n l) i
         → Passed f h j (held n l) (i + 1)
     unfolding Passed insertName
     spot-more k room e z q =
@@ -142,11 +114,11 @@ module _ (f : List ℕ) (h : Header) (j n : ℕ) (xs : List ℕ) (p : ℕ) where
   unfolding Placed
   placed-before k e = (k, e)
 
-  pub placed-present : p < n → insertName f h j xs ≡ lowerAt p j xs → Placed f h j n xs (Present p)
+  pub placed-present : p < n → insertName f h j xs ≡ lowerAt p j xs → orderOf f h j (getD xs p 0) ≡ Equal → Placed f h j n xs (Present p)
   unfolding Placed
-  placed-present k e = (k, e)
+  placed-present k e o = (k, e, o)
 
-pub ruleset spot-loop = (spot-none, spot-less, spot-same, spot-more, spot-end, placed-before, placed-present)
+pub ruleset spot-loop = (spot-less, spot-same, spot-equal, spot-end, placed-before, placed-present)
 
 -- and back, as `insert` asks it
 module _ (f : List ℕ) (h : Header) (j n : ℕ) (xs : List ℕ) (s : Spot) (p : ℕ) (q : Placed f h j n xs s) where
@@ -166,14 +138,195 @@ module _ (f : List ℕ) (h : Header) (j n : ℕ) (xs : List ℕ) (s : Spot) (p :
   unfolding Placed
   present-list e = (rw e at q) .1
 
+  present-order : s ≡ Present p → orderOf f h j (getD xs p 0) ≡ Equal
+  unfolding Placed
+  present-order e = (rw e at q) .2
+
 module _ (f : List ℕ) (h : Header) (j n : ℕ) (l m : List ℕ) (s : Spot) (p : ℕ) (q : Placed f h j n (held n l) s) where
-  pub insert-before : s ≡ Before p → held (n + 1) m ≡ putAt p j (held n l) → Inserted f h j l n m (n + 1)
-  insert-before e y = record { room = omega arith; list = y ∙ sym (before-list f h j n (held n l) s p q e) }
+  pub insert-before : (k : ℕ) (ks after : List ℕ) → s ≡ Before p → PutBoth l ks n p j k m after → Inserted f h j l n m (n + 1)
+  insert-before k ks after e y = record { room = omega arith; list = y .list ∙ sym (before-list f h j n (held n l) s p q e) }
 
   pub insert-present : s ≡ Present p → held n m ≡ lowerAt p j (held n l) → Inserted f h j l n m n
   insert-present e y = record { room = omega arith; list = y ∙ sym (present-list f h j n (held n l) s p q e) }
 
-pub ruleset inserts = (before-room, present-room, insert-before, insert-present)
+-- ---- the keys beside the list
+module _ (f : List ℕ) (h : Header) where
+  keys-put : (p j : ℕ) (xs : List ℕ) → putAt p (symbolKey f h j) (keysOf f h xs) ≡ keysOf f h (putAt p j xs)
+  unfolding putAt keysOf
+  keys-put zero j [] = refl
+  keys-put zero j (x ∷ xs) = refl
+  keys-put (suc p) j [] = refl
+  keys-put (suc p) j (x ∷ xs) = ap (λ (ks : List ℕ). symbolKey f h x ∷ ks) (keys-put p j xs)
+
+  -- of two equal names either has the key
+  keys-lower : (p j : ℕ) (xs : List ℕ) → p < length xs → orderOf f h j (getD xs p 0) ≡ Equal → keysOf f h xs ≡ keysOf f h (lowerAt p j xs)
+  unfolding lowerAt keysOf
+  keys-lower p j [] k e = absurd (not-suc-le-zero k)
+  keys-lower zero j (x ∷ xs) k e = ap (λ (s : List ℕ). key KEY-BYTES s ∷ keysOf f h xs) (sym (min-name f h j x e))
+  keys-lower (suc p) j (x ∷ xs) k e = ap (λ (ks : List ℕ). symbolKey f h x ∷ ks) (keys-lower p j xs (le-of-suc-le-suc k) e)
+
+  keys-at : (xs : List ℕ) (p : ℕ) → p < length xs → getD (keysOf f h xs) p 0 ≡ symbolKey f h (getD xs p 0)
+  unfolding keysOf
+  keys-at [] p k = absurd (not-suc-le-zero k)
+  keys-at (x ∷ xs) zero k = refl
+  keys-at (x ∷ xs) (suc p) k = keys-at xs p (le-of-suc-le-suc k)
+
+  pub key-of : (j k : ℕ) (s : Span) → k ≡ key KEY-BYTES (spanText f s) → s ≡ symbolSpan f h j → k ≡ symbolKey f h j
+  key-of j k s e d = rw (← d) e
+
+  key-at : (l ks : List ℕ) (n p : ℕ) → p < n → n ≤ length l → n ≤ length ks → InStep f h l ks n → getD ks p 0 ≡ symbolKey f h (getD l p 0)
+  unfolding InStep
+  key-at l ks n p lt room beside e =
+      let here : p < length (held n l) = rw (held-length n l room) lt in
+      let its = sym (get-held ks n p lt beside) ∙ ap (λ (m : List ℕ). getD m p 0) e ∙ keys-at (held n l) p here in
+      rw (get-held l n p lt room) at its
+
+  module _ (j n : ℕ) (l m ks : List ℕ) (s : Spot) (p : ℕ) (q : Placed f h j n (held n l) s) (e : InStep f h l ks n) where
+    pub step-before : (after : List ℕ) (k : ℕ) → s ≡ Before p → k ≡ symbolKey f h j → PutBoth l ks n p j k m after → InStep f h m after (n + 1)
+    unfolding InStep
+    step-before after k is d b =
+        b .beside ∙ (ap (λ (x : ℕ). putAt p x (held n ks)) d ∙ ap (putAt p (symbolKey f h j)) e) ∙ keys-put p j (held n l) ∙ ap (keysOf f h) (sym (b .list))
+
+    pub step-present : s ≡ Present p → n < length l → held n m ≡ lowerAt p j (held n l) → InStep f h m ks n
+    unfolding InStep
+    step-present is room y =
+        let k : p < length (held n l) = rw (held-length n l (omega arith)) (present-room f h j n (held n l) s p q is) in
+        e ∙ keys-lower p j (held n l) k (present-order f h j n (held n l) s p q is) ∙ ap (keysOf f h) (sym y)
+
+  step-none : (l ks : List ℕ) → InStep f h l ks 0
+  unfolding InStep keysOf held
+  step-none l ks = refl
+
+-- ---- the table of symbols that were put
+pub seen-cell : (s : List ℕ) (j c : ℕ) → c ≡ getD s (j % SEEN) 0 → eqb c (j + 1) ≡ isSeen s j
+seen-cell s j c e = rw e
+
+module _ (s : List ℕ) (j : ℕ) where
+  pub note-new : (s′ : List ℕ) → j < NOTED → s′ ≡ splice s (j % SEEN) ((j + 1) ∷ []) → s′ ≡ noted s j
+  unfolding noted pick
+  note-new s′ k e = rw (lt-ltb j NOTED k) e
+
+  pub note-past : NOTED ≤ j → s ≡ noted s j
+  unfolding noted pick
+  note-past k = rw (le-ltb j NOTED k)
+
+pub ruleset notes = (note-new, note-past)
+
+set-cell : (s : List ℕ) (at v i : ℕ) → (getD (set s at v) i 0 ≡ v) ⊎ (getD (set s at v) i 0 ≡ getD s i 0)
+set-cell [] at v i = inr refl
+set-cell (y ∷ s) zero v zero = inl refl
+set-cell (y ∷ s) zero v (suc i) = inr refl
+set-cell (y ∷ s) (suc at) v zero = inr refl
+set-cell (y ∷ s) (suc at) v (suc i) = set-cell s at v i
+
+-- a cell has what it had, or j
+noted-cell : (s : List ℕ) (j i x : ℕ) → getD (noted s j) i 0 ≡ suc x → (x ≡ j) ⊎ (getD s i 0 ≡ suc x)
+unfolding noted splice pick
+noted-cell s j i x e = by-size (ltb j NOTED) e
+  where
+    by-size : (b : Bool) → getD (pick b (splice s (j % SEEN) ((j + 1) ∷ [])) s) i 0 ≡ suc x → (x ≡ j) ⊎ (getD s i 0 ≡ suc x)
+    by-size true q = ⊎-elim (λ z. inl (omega arith)) (λ z. inr (sym z ∙ q)) (set-cell s (j % SEEN) (j + 1) i)
+    by-size false q = inr q
+
+module _ (f : List ℕ) (h : Header) where
+  pub seen-none : (n : ℕ) → Seen f h (replicate n 0) []
+  unfolding Seen
+  seen-none n i j e =
+      ⊎-elim (λ k. let z = List·getD-eq-default (replicate {A = ℕ} n 0) 0 {n = i} (rw (length-replicate {A = ℕ} n 0) k) in absurd (omega arith))
+      (λ k. let z = getD-replicate {A = ℕ} n i 0 0 k in absurd (omega arith)) (le-or-lt n i)
+
+  module _ (l ks s : List ℕ) where
+    pub table-none : Seen f h s [] → Kept f h l ks s 0
+    unfolding held
+    table-none e = record { step = step-none f h l ks; rising = tt; known = e }
+
+    pub table-step : (n : ℕ) → Kept f h l ks s n → InStep f h l ks n
+    table-step n k = k .step
+
+    pub table-over : KeptFor f h l ks s TooMany
+    unfolding KeptFor
+    table-over = tt
+
+    pub table-count : (n : ℕ) → Kept f h l ks s n → KeptFor f h l ks s (Count n)
+    unfolding KeptFor
+    table-count n e = e
+
+    pub table-of : (r : Names) (n : ℕ) → KeptFor f h l ks s r → r ≡ Count n → Kept f h l ks s n
+    unfolding KeptFor
+    table-of r n e q = rw q at e
+
+    module _ (n j : ℕ) (k : Kept f h l ks s n) where
+      -- what was seen adds nothing
+      pub add-seen : (b : Bool) → b ≡ isSeen s j → b ≡ true → Inserted f h j l n l n
+      unfolding Seen
+      add-seen b is t =
+          let e : getD s (j % SEEN) 0 ≡ suc j = rw add-one at (eqb-true (getD s (j % SEEN) 0) (j + 1) (sym is ∙ t)) in
+          record { room = omega arith; list = sym (put-again f h j (held n l) (k .rising) (k .known (j % SEEN) j e)) }
+
+      pub add-new : (l′ ks′ s′ : List ℕ) (r : ℕ) → Inserted f h j l n l′ r → InStep f h l′ ks′ r → s′ ≡ noted s j → Kept f h l′ ks′ s′ r
+      unfolding Seen
+      add-new l′ ks′ s′ r y e d =
+          record {
+            step = e;
+            rising = rw (y .list) (rise f h j (held n l) (k .rising));
+            known = λ i x q. rw (y .list)
+                (⊎-elim (λ (z : x ≡ j). rw z (put-in f h j (held n l))) (λ z. keep f h j x (held n l) (k .known i x z)) (noted-cell s j i x (rw d at q)));
+          }
+
+pub ruleset tables = (table-none, table-over, table-count, table-of)
+
+-- ---- by keys: lower ones are passed, and before a higher one j goes
+module _ (ks : List ℕ) (n p k : ℕ) where
+  pub skip-none : p ≤ n → Skipped ks n p k p
+  skip-none h = record { low = omega arith; high = h; lower = λ i a b. omega arith }
+
+  pub skip-more : (q : ℕ) → Skipped ks n p k q → q < n → getD ks q 0 < k → Skipped ks n p k (q + 1)
+  skip-more q s h l =
+      let a = s .low in
+      record {
+        low = omega arith;
+        high = omega arith;
+        lower = λ i b c. ⊎-elim (λ (e : q ≤ i). let z : i ≡ q = omega arith in rw z l) (λ e. s .lower i b e) (le-or-lt q i);
+      }
+
+pub ruleset skip-loop = (skip-none, skip-more)
+
+module _ (f : List ℕ) (h : Header) (j n k : ℕ) (l ks : List ℕ) (m : (i : ℕ) → Fits w8 (getD f i 0)) (room : n ≤ length l) (beside : n ≤ length ks) (e : InStep f h l ks n)
+    (d : k ≡ symbolKey f h j) where
+  bytes : IsBytes f
+  bytes i = let b = m i in omega arith
+
+  pub spot-key : (i : ℕ) → i < n → k < getD ks i 0 → Passed f h j (held n l) i → insertName f h j (held n l) ≡ putAt i j (held n l)
+  spot-key i lt c q =
+      let y : symbolKey f h j < symbolKey f h (getD l i 0) = rw (d, key-at f h l ks n i lt room beside e) at c in
+      spot-less f h j l n i Less (symbolSpan f h j) refl lt room (sym (key-less f bytes (symbolSpan f h j) (symbolSpan f h (getD l i 0)) y)) refl q
+
+  passed-key : (i : ℕ) → i < n → getD ks i 0 < k → Passed f h j (held n l) i → Passed f h j (held n l) (i + 1)
+  passed-key i lt c q =
+      let y : symbolKey f h (getD l i 0) < symbolKey f h j = rw (d, key-at f h l ks n i lt room beside e) at c in
+      spot-more f h j l n i Greater (symbolSpan f h j) refl lt room (sym (key-greater f bytes (symbolSpan f h j) (symbolSpan f h (getD l i 0)) y)) refl q
+
+  passed-keys : (p t : ℕ) → p + t ≤ n → ((i : ℕ) → p ≤ i → i < p + t → getD ks i 0 < k) → Passed f h j (held n l) p → Passed f h j (held n l) (p + t)
+  passed-keys p zero fit lower q = let z : p + 0 ≡ p = omega arith in rw z q
+  passed-keys p (suc t) fit lower q =
+      let z : p + suc t ≡ p + t + 1 = omega arith in
+      rw z (passed-key (p + t) (omega arith) (lower (p + t) (omega arith) (omega arith)) (passed-keys p t (omega arith) (λ i a b. lower i a (omega arith)) q))
+
+  passed-skip : (p r : ℕ) → Passed f h j (held n l) p → Skipped ks n p k r → Passed f h j (held n l) r
+  passed-skip p r q s =
+      let a = s .low in
+      let b = s .high in
+      let z : p + (r - p) ≡ r = omega arith in
+      rw z at (passed-keys p (r - p) (omega arith) (λ i x y. s .lower i x (omega arith)) q)
+
+  pub spot-first : (r : ℕ) → Skipped ks n 0 k r → Passed f h j (held n l) r
+  spot-first r s = passed-skip 0 r (spot-none f h j (held n l)) s
+
+  pub spot-on : (i r : ℕ) (o : Order) (name : Span) → name ≡ symbolSpan f h j → i < n → o ≡ nameOrder f h (spanText f name) (getD l i 0) → o ≡ Greater
+      → Passed f h j (held n l) i → Skipped ks n (i + 1) k r → Passed f h j (held n l) r
+  spot-on i r o name is lt w g q s = passed-skip (i + 1) r (spot-more f h j l n i o name is lt room w g q) s
+
+pub ruleset spot-keys = (spot-key, spot-first, spot-on)
 
 -- ---- the lower number stays
 module _ (l : List ℕ) (n p j : ℕ) (room : n < length l) (h : p < n) where
@@ -255,10 +408,6 @@ module _ (l : List ℕ) (n : ℕ) (room : n < length l) where
 pub ruleset shift-loop = (shift-none, shift-more, shift-end)
 
 -- ---- what the answer says
-pub held-length : (n : ℕ) (l : List ℕ) → n ≤ length l → length (held n l) ≡ n
-unfolding held
-held-length n l h = length-take-le n l h
-
 module _ (ys l : List ℕ) where
   pub holds-over : MAX-EXTERNS < length ys → Holds ys l TooMany
   unfolding Holds
@@ -273,67 +422,72 @@ module _ (ys l : List ℕ) where
   held-list r n q e = count-list ys l r q n e
 
 -- ---- the relocations of a section
-module _ (f : List ℕ) (h : Header) (own : ℕ → Bool) (i : ℕ) (xs : List ℕ) where
-  pub records-none : xs ≡ externRecords f h own i xs 0
+module _ (f : List ℕ) (h : Header) (puts : ℕ → Bool) (i : ℕ) (xs : List ℕ) where
+  pub records-none : xs ≡ externRecords f h puts i xs 0
   unfolding externRecords
   records-none = refl
 
-  pub records-pass : (k n : ℕ) (l : List ℕ) (b : Bool) → b ≡ puts f h own i k → b ≡ false → held n l ≡ externRecords f h own i xs k
-      → held n l ≡ externRecords f h own i xs (k + 1)
-  unfolding externRecords pick
-  records-pass k n l b e t q = rw (add-one, ← e, t) q
+  module _ (rs : Records) (is : rs ≡ recordsOf f h i) where
+    module _ (k n : ℕ) (l : List ℕ) (b : Bool) (x : Relocation) (read : x ≡ relocationIn f (recordAt rs k)) (does : b ≡ puts (x .symbol)) where
+      name-put : b ≡ puts (relocationSymbol f h i k)
+      name-put = does ∙ ap puts (symbol-read f h i rs x k is read)
 
-  module _ (k j n r : ℕ) (l a : List ℕ) (b : Bool) where
-    pub records-more : b ≡ puts f h own i k → b ≡ true → j ≡ relocationSymbol f h i k → held n l ≡ externRecords f h own i xs k → Inserted f h j l n a r
-        → held r a ≡ externRecords f h own i xs (k + 1)
-    unfolding externRecords pick
-    records-more p t e q y = rw (add-one, ← p, t, ← e, ← q) (y .list)
+      pub records-pass : b ≡ false → held n l ≡ externRecords f h puts i xs k → held n l ≡ externRecords f h puts i xs (k + 1)
+      unfolding externRecords pick
+      records-pass t q = rw (add-one, ← name-put, t) q
 
-    pub records-over : (m t : ℕ) (z : List ℕ) → k < m → m ≡ t → b ≡ puts f h own i k → b ≡ true → j ≡ relocationSymbol f h i k
-        → held n l ≡ externRecords f h own i xs k → Inserted f h j l n a r → n ≤ MAX-EXTERNS → MAX-EXTERNS < length l → length a ≡ length l → MAX-EXTERNS < r
-        → Holds (externRecords f h own i xs t) z TooMany
-    records-over m t z lt is p w e q y few room same over =
-        holds-over (externRecords f h own i xs t) z
-        (omega (
-          arith,
-          held-length r a (omega (arith, y .room)),
-          ap length (records-more p w e q y),
-          records-grow f h own i xs (k + 1) t (omega arith),
-        ))
+      module _ (r : ℕ) (a : List ℕ) (t : b ≡ true) (q : held n l ≡ externRecords f h puts i xs k) (y : Inserted f h (x .symbol) l n a r) where
+        pub records-more : held r a ≡ externRecords f h puts i xs (k + 1)
+        unfolding externRecords pick
+        records-more = rw (add-one, ← name-put, t, ← symbol-read f h i rs x k is read, ← q) (y .list)
 
-  pub records-end : (k m t n : ℕ) (l : List ℕ) → k ≤ m → m ≤ k → m ≡ t → n ≤ MAX-EXTERNS → held n l ≡ externRecords f h own i xs k → Holds (externRecords f h own i xs t) l (Count n)
-  records-end k m t n l a b z few q = let e : k ≡ t = omega arith in holds-count (externRecords f h own i xs t) l n few (rw e at q)
+        pub records-over : (z : List ℕ) → k < rs .count → n ≤ MAX-EXTERNS → MAX-EXTERNS < length l → length a ≡ length l → MAX-EXTERNS < r
+            → Holds (externRecords f h puts i xs (relocationCount f h i)) z TooMany
+        records-over z lt few room same over =
+            holds-over (externRecords f h puts i xs (relocationCount f h i)) z
+            (omega (
+              arith,
+              held-length r a (omega (arith, y .room)),
+              ap length records-more,
+              records-grow f h puts i xs (k + 1) (relocationCount f h i) (let e = count-read f h i rs is in omega arith),
+            ))
+
+    pub records-end : (k n : ℕ) (l : List ℕ) → k ≤ rs .count → rs .count ≤ k → n ≤ MAX-EXTERNS → held n l ≡ externRecords f h puts i xs k
+        → Holds (externRecords f h puts i xs (relocationCount f h i)) l (Count n)
+    records-end k n l a b few q =
+        let e : k ≡ relocationCount f h i = let z = count-read f h i rs is in omega arith in
+        holds-count (externRecords f h puts i xs (relocationCount f h i)) l n few (rw e at q)
 
 pub ruleset records-loop = (records-none, records-pass, records-more, records-over, records-end)
 
 -- ---- of all sections
-module _ (f : List ℕ) (h : Header) (own : ℕ → Bool) where
-  externs-suc : (i n : ℕ) (l : List ℕ) → held n l ≡ externsTo f h own i → externsTo f h own (i + 1) ≡ externRecords f h own i (held n l) (relocationCount f h i)
+module _ (f : List ℕ) (h : Header) (puts : ℕ → Bool) where
+  externs-suc : (i n : ℕ) (l : List ℕ) → held n l ≡ externsTo f h puts i → externsTo f h puts (i + 1) ≡ externRecords f h puts i (held n l) (relocationCount f h i)
   unfolding externsTo
   externs-suc i n l q = rw (add-one, q)
 
-  pub externs-none : (l : List ℕ) → held 0 l ≡ externsTo f h own 0
+  pub externs-none : (l : List ℕ) → held 0 l ≡ externsTo f h puts 0
   unfolding externsTo held
   externs-none l = refl
 
   module _ (i n : ℕ) (l a : List ℕ) (r : Names) where
-    pub externs-more : (c : ℕ) → held n l ≡ externsTo f h own i → Holds (externRecords f h own i (held n l) (relocationCount f h i)) a r → r ≡ Count c
-        → held c a ≡ externsTo f h own (i + 1)
-    externs-more c q y e = held-list (externRecords f h own i (held n l) (relocationCount f h i)) a r c y e ∙ sym (externs-suc i n l q)
+    pub externs-more : (c : ℕ) → held n l ≡ externsTo f h puts i → Holds (externRecords f h puts i (held n l) (relocationCount f h i)) a r → r ≡ Count c
+        → held c a ≡ externsTo f h puts (i + 1)
+    externs-more c q y e = held-list (externRecords f h puts i (held n l) (relocationCount f h i)) a r c y e ∙ sym (externs-suc i n l q)
 
-    pub externs-over : (m t : ℕ) (b : List ℕ) → i < m → m ≡ t → held n l ≡ externsTo f h own i
-        → Holds (externRecords f h own i (held n l) (relocationCount f h i)) a r → r ≡ TooMany → Holds (externsTo f h own t) b TooMany
+    pub externs-over : (m t : ℕ) (b : List ℕ) → i < m → m ≡ t → held n l ≡ externsTo f h puts i
+        → Holds (externRecords f h puts i (held n l) (relocationCount f h i)) a r → r ≡ TooMany → Holds (externsTo f h puts t) b TooMany
     externs-over m t b lt z q y e =
-        holds-over (externsTo f h own t) b
+        holds-over (externsTo f h puts t) b
         (omega (
           arith,
-          over-length (externRecords f h own i (held n l) (relocationCount f h i)) a r y e,
+          over-length (externRecords f h puts i (held n l) (relocationCount f h i)) a r y e,
           ap length (externs-suc i n l q),
-          sections-grow f h own (i + 1) t (omega arith),
+          sections-grow f h puts (i + 1) t (omega arith),
         ))
 
-  pub externs-end : (i m t n : ℕ) (l : List ℕ) → i ≤ m → m ≤ i → m ≡ t → n ≤ MAX-EXTERNS → held n l ≡ externsTo f h own i → Holds (externsTo f h own t) l (Count n)
-  externs-end i m t n l a b z few q = let e : i ≡ t = omega arith in holds-count (externsTo f h own t) l n few (rw e at q)
+  pub externs-end : (i m t n : ℕ) (l : List ℕ) → i ≤ m → m ≤ i → m ≡ t → n ≤ MAX-EXTERNS → held n l ≡ externsTo f h puts i → Holds (externsTo f h puts t) l (Count n)
+  externs-end i m t n l a b z few q = let e : i ≡ t = omega arith in holds-count (externsTo f h puts t) l n few (rw e at q)
 
 pub ruleset externs-loop = (externs-none, externs-more, externs-over, externs-end, count-room)
 
@@ -381,14 +535,60 @@ module _ (f : List ℕ) (h : Header) (name list : List ℕ) where
   pub half-none : (lo n : ℕ) (x : Found) → n ≤ 0 → halves f h list name n lo n ≡ x → Nothing ≡ x
   half-none lo n x k q = sym (halves-none n lo n k) ∙ q
 
-pub ruleset half-loop = (half-left, half-here, half-right, half-none)
+-- in a list that rises the search finds the slot
+pub half-begin : (f : List ℕ) (h : Header) (list : List ℕ) (s : Span) (j : ℕ) → Rising f h list → s ≡ symbolSpan f h j
+    → halves f h list (spanText f s) (length list) 0 (length list) ≡ slotOf f h list (symbolText f h j)
+half-begin f h list s j r e = bisect-slot f h list (spanText f s) r ∙ ap (λ (x : Span). slotOf f h list (spanText f x)) e
+
+pub ruleset half-loop = (half-begin, half-left, half-here, half-right, half-none)
+
+-- ---- the slots into the codes
+module _ (found : Found) where
+  pub code-index : (e : ℕ) → found ≡ Index e → e % SPAN + SLOTS ≡ foundCode found
+  unfolding foundCode
+  code-index e q = rw q (omega arith)
+
+  pub code-nothing : found ≡ Nothing → NO-SLOT ≡ foundCode found
+  unfolding foundCode
+  code-nothing q = rw q
+
+pub ruleset slot-codes = (code-index, code-nothing)
+
+module _ (f : List ℕ) (h : Header) (slots : List ℕ) (j c : ℕ) (b : Bool) (is : b ≡ takesSlot c) where
+  pub slot-taken : (x : Found) (r : ℕ) → b ≡ true → x ≡ slotOf f h slots (symbolText f h j) → r ≡ foundCode x → r ≡ slottedCode c (slotOf f h slots (symbolText f h j))
+  unfolding slottedCode pick
+  slot-taken x r t q p = rw (← is, t, ← q) p
+
+  pub slot-left : b ≡ false → c ≡ slottedCode c (slotOf f h slots (symbolText f h j))
+  unfolding slottedCode pick
+  slot-left t = rw (← is, t)
+
+pub ruleset slot-ways = (slot-taken, slot-left)
+
+pub slot-put : (f : List ℕ) (h : Header) (slots b b′ : List ℕ) (j c x : ℕ) → x ≡ slottedCode c (slotOf f h slots (symbolText f h j)) → c ≡ getD b j 0
+    → b′ ≡ splice b j (x ∷ []) → b′ ≡ splice b j (slottedAt f h slots b j ∷ [])
+unfolding slottedAt
+slot-put f h slots b b′ j c x m r d = rw (← r, ← m) d
+
+-- what is read is not written before
+slots-same : (f : List ℕ) (h : Header) (slots l b : List ℕ) (j : ℕ) → b ≡ splice l 0 (slottedTo f h slots l j) → slottedAt f h slots b j ≡ slottedAt f h slots l j
+unfolding slottedAt
+slots-same f h slots l b j e =
+    ap (λ (y : ℕ). slottedCode y (slotOf f h slots (symbolText f h j)))
+    (ap (λ (y : List ℕ). getD y j 0) e ∙ splice-above l 0 (slottedTo f h slots l j) j (let z = length-list (slottedAt f h slots l) j in omega arith))
+
+pub slots-again : (f : List ℕ) (h : Header) (slots l b b′ : List ℕ) (j : ℕ) → b ≡ splice l 0 (slottedTo f h slots l j) → b′ ≡ splice b j (slottedAt f h slots b j ∷ [])
+    → b′ ≡ splice l 0 (slottedTo f h slots l (j + 1))
+slots-again f h slots l b b′ j e d = fill-again (slottedAt f h slots l) l b b′ j (slottedAt f h slots b j) e (slots-same f h slots l b j e) d
+
+pub ruleset slots-loop = (fill-none, slots-again, fill-end)
 
 -- ---- names that are known by an equation
 pub same-by : (s t name : List ℕ) {r : Bool} → r ≡ sameBytes s name → s ≡ t → r ≡ sameBytes t name
 same-by s t name p q = rw (← q) p
 
-pub order-by : (name s t : List ℕ) {r : Order} → r ≡ compareBytes name s → s ≡ t → r ≡ compareBytes name t
-order-by name s t p q = rw (← q) p
+pub order-by : (f : List ℕ) (h : Header) (a s : Span) (x : ℕ) {r : Order} → r ≡ compareBytes (spanText f a) (spanText f s) → s ≡ symbolSpan f h x → r ≡ nameOrder f h (spanText f a) x
+order-by f h a s x p q = rw (← q) p
 
 -- ---- zeros behind the list
 module _ (l : List ℕ) (from : ℕ) where
@@ -416,22 +616,35 @@ cleared l n k =
     let w : n + length {A = ℕ} (replicate (length l - n) 0) ≡ length l = omega arith in
     sets-eq (replicate (length l - n) 0) l n (omega arith) ∙ rw (w, drop-of-length-le l (let y : length l ≤ length l = omega arith in y), append-nil)
 
-pub record Collected (ys s : List ℕ) (r : Names) : Type 0 where
+pub record Collected (f : List ℕ) (h : Header) (codes ys s codes′ : List ℕ) (r : Names) : Type 0 where
   pub says : r ≡ namesOf ys
   pub words : s ≡ slotWords ys
   pub long : length s ≡ EXTERN-ROOM
+  pub slots : codes′ ≡ codesAfter f h codes ys
 
-module _ (ys s t : List ℕ) (r : Names) (holds : Holds ys s r) (room : length s ≡ EXTERN-ROOM) where
-  pub kept-over : r ≡ TooMany → t ≡ splice s 0 (replicate (length s - 0) 0) → Collected ys t TooMany
-  unfolding slotWords pick
+module _ (f : List ℕ) (h : Header) (codes ys s t : List ℕ) (r : Names) (holds : Holds ys s r) (room : length s ≡ EXTERN-ROOM) where
+  pub kept-over : r ≡ TooMany → t ≡ splice s 0 (replicate (length s - 0) 0) → Collected f h codes ys t codes TooMany
+  unfolding slotWords codesAfter pick
   kept-over e d =
       let z : leb (length ys) MAX-EXTERNS ≡ false = lt-leb (length ys) MAX-EXTERNS (over-length ys s r holds e) in
       let w : t ≡ replicate EXTERN-ROOM 0 = rw room at (d ∙ cleared s 0 (omega arith)) in
-      record { says = rw z; words = rw z w; long = rw w (length-replicate {A = ℕ} EXTERN-ROOM 0) }
+      record { says = rw z; words = rw z w; long = rw w (length-replicate {A = ℕ} EXTERN-ROOM 0); slots = rw z }
 
-  pub kept-few : (n : ℕ) → r ≡ Count n → t ≡ splice s n (replicate (length s - n) 0) → Collected ys t (Count n)
-  unfolding slotWords pick
-  kept-few n e d =
+  -- the first n words are the list
+  front-is : (n : ℕ) → r ≡ Count n → t ≡ splice s n (replicate (length s - n) 0) → part t 0 n ≡ ys
+  unfolding part
+  front-is n e d =
+      let few = count-room ys s r holds n e in
+      let list = count-list ys s r holds n e in
+      ap (λ (x : List ℕ). take n x) (d ∙ cleared s n (omega arith)) ∙ take-at (take n s) (replicate (length s - n) 0) n (rw (length-take n s) (omega arith)) ∙ list
+
+  pub front-rises : (n : ℕ) (w : List ℕ) → r ≡ Count n → t ≡ splice s n (replicate (length s - n) 0) → w ≡ part t 0 n → Rising f h ys → Rising f h w
+  front-rises n w e d q g = rw (q, front-is n e d) g
+
+  pub kept-few : (n : ℕ) (w codes′ : List ℕ) → r ≡ Count n → t ≡ splice s n (replicate (length s - n) 0) → w ≡ part t 0 n → codes′ ≡ slotted f h w codes
+      → Collected f h codes ys t codes′ (Count n)
+  unfolding slotWords codesAfter pick
+  kept-few n v codes′ e d q p =
       let few = count-room ys s r holds n e in
       let list = count-list ys s r holds n e in
       let c : length (take n s) ≡ n = rw (length-take n s) (omega arith) in
@@ -442,6 +655,7 @@ module _ (ys s t : List ℕ) (r : Names) (holds : Holds ys s r) (room : length s
         says = rw (z, m);
         words = rw (z, m) w;
         long = rw (w, length-append, length-replicate {A = ℕ}) (omega arith);
+        slots = rw z (p ∙ ap (λ (x : List ℕ). slotted f h x codes) (q ∙ front-is n e d));
       }
 
 pub ruleset kept = (kept-over, kept-few)

@@ -95,5 +95,5 @@ module _ (f : List ℕ) (h : Header) (list name : List ℕ) where
   bisect-slot r = halves-slot r (length list) 0 (length list) (omega arith) (omega arith) (λ e p q. (omega arith, omega arith))
 
 -- so it does in the list of a file's externs
-pub bisect-externs : (f : List ℕ) (h : Header) (own : ℕ → Bool) (name : List ℕ) → bisect f h (externsBy f h own) name ≡ slotOf f h (externsBy f h own) name
-bisect-externs f h own name = bisect-slot f h (externsBy f h own) name (externs-rise f h own)
+pub bisect-externs : (f : List ℕ) (h : Header) (puts : ℕ → Bool) (name : List ℕ) → bisect f h (externsBy f h puts) name ≡ slotOf f h (externsBy f h puts) name
+bisect-externs f h puts name = bisect-slot f h (externsBy f h puts) name (externs-rise f h puts)

@@ -8,16 +8,15 @@ use lib.ListN.{length, take, replicate}
 use Rattle.util.specs.Pick.{pick}
 use Rattle.object.specs.declared.Header.{Header}
 use Rattle.object.specs.Section.{relocationCount}
-use Rattle.object.specs.Symbol.{isSymbol}
 use Rattle.object.specs.Relocation.{relocationSymbol}
 use Rattle.names.specs.declared.Order.{Order}
 use Rattle.names.specs.declared.Order.the-variants.{Less, Equal, Greater}
 use Rattle.names.specs.Bytes.{compareBytes}
 use Rattle.names.specs.Name.{symbolText}
 use Rattle.limits.specs.Limits.{MAX-EXTERNS, EXTERN-ROOM}
+use Rattle.codes.specs.Puts as Puts
 use Rattle.externs.specs.declared.Names.{Names}
 use Rattle.externs.specs.declared.Names.the-variants.{TooMany, Count}
-use Rattle.externs.specs.Puts.{puts}
 
 -- the order of two symbols' names
 abbrev pub orderOf : List ℕ → Header → ℕ → ℕ → Order
@@ -33,23 +32,23 @@ unfoldable pub insertName : List ℕ → Header → ℕ → List ℕ → List �
 insertName f h j [] = j ∷ []
 insertName f h j (x ∷ xs) = byOrder (orderOf f h j x) (j ∷ x ∷ xs) (min j x ∷ xs) (x ∷ insertName f h j xs)
 
--- the list after the first k records of section i, which found xs; `own` says which records are symbols' own
+-- the list after the first k records of section i, which found xs; `puts` says which numbers of symbols a relocation puts there
 unfoldable pub externRecords : List ℕ → Header → (ℕ → Bool) → ℕ → List ℕ → ℕ → List ℕ
-externRecords f h own i xs zero = xs
-externRecords f h own i xs (suc k) =
-    pick (puts f h own i k) (insertName f h (relocationSymbol f h i k) (externRecords f h own i xs k)) (externRecords f h own i xs k)
+externRecords f h puts i xs zero = xs
+externRecords f h puts i xs (suc k) =
+    pick (puts (relocationSymbol f h i k)) (insertName f h (relocationSymbol f h i k) (externRecords f h puts i xs k)) (externRecords f h puts i xs k)
 
 -- after the first i sections: the relocations of all sections, loaded or not, in section and record order
 unfoldable pub externsTo : List ℕ → Header → (ℕ → Bool) → ℕ → List ℕ
-externsTo f h own zero = []
-externsTo f h own (suc i) = externRecords f h own i (externsTo f h own i) (relocationCount f h i)
+externsTo f h puts zero = []
+externsTo f h puts (suc i) = externRecords f h puts i (externsTo f h puts i) (relocationCount f h i)
 
 abbrev pub externsBy : List ℕ → Header → (ℕ → Bool) → List ℕ
-externsBy f h own = externsTo f h own (h .sections)
+externsBy f h puts = externsTo f h puts (h .sections)
 
 -- the extern list of a file
 abbrev pub externs : List ℕ → Header → List ℕ
-externs f h = externsBy f h (isSymbol f h)
+externs f h = externsBy f h (Puts.puts f h)
 
 -- how many names there are, or that there are too many; and the words that keep the list: zeros behind it, and nothing of one that is too long
 abbrev pub namesOf : List ℕ → Names

@@ -4,9 +4,10 @@ use mathlib.Core.List.{List, _∷_, _++_}
 use Prim.Native.Nat.{ℕ, suc, _+_, _≤_, _<_, min}
 use lib.ListN.{getD, take, drop}
 use Rattle.object.specs.declared.Header.{Header}
+use Rattle.names.specs.declared.Order.the-variants.{Equal}
 use Rattle.externs.specs.declared.Spot.{Spot}
 use Rattle.externs.specs.declared.Spot.the-variants.{Before, Present}
-use Rattle.externs.specs.Externs.{insertName}
+use Rattle.externs.specs.Externs.{orderOf, insertName}
 
 -- the first n of l
 unfoldable pub held : ℕ → List ℕ → List ℕ
@@ -22,7 +23,7 @@ lowerAt p j xs = take p xs ++ min j (getD xs p 0) ∷ drop (suc p) xs
 -- where j goes among the n of xs
 unfoldable pub Placed : List ℕ → Header → ℕ → ℕ → List ℕ → Spot → Type 0
 Placed f h j n xs (Before p) = (p ≤ n) × (insertName f h j xs ≡ putAt p j xs)
-Placed f h j n xs (Present p) = (p < n) × (insertName f h j xs ≡ lowerAt p j xs)
+Placed f h j n xs (Present p) = (p < n) × (insertName f h j xs ≡ lowerAt p j xs) × (orderOf f h j (getD xs p 0) ≡ Equal)
 
 -- after an insertion of j in the first n: the first r are what they should be
 pub record Inserted (f : List ℕ) (h : Header) (j : ℕ) (before : List ℕ) (n : ℕ) (after : List ℕ) (r : ℕ) : Type 0 where

@@ -12,7 +12,7 @@ use Rattle.names.specs.declared.Order.{Order}
 use Rattle.names.specs.declared.Order.the-variants.{Less, Equal, Greater}
 use Rattle.names.specs.Bytes.{compareBytes}
 use Rattle.names.specs.Name.{symbolText}
-use Rattle.names.specs.OrderLaws.{equal-same, turned, compare-turned, less-less, less-not-self}
+use Rattle.names.specs.OrderLaws.{equal-same, compare-self, turned, compare-turned, less-less, less-not-self}
 use Rattle.externs.specs.Externs.{orderOf, byOrder, insertName}
 
 -- ---- a list by its members
@@ -41,7 +41,7 @@ min-either a b = ⊎-elim (λ k. inl (omega arith)) (λ k. inr (omega arith)) (l
 -- ---- one insertion
 module _ (f : List ℕ) (h : Header) (j : ℕ) where
   -- of two equal names the lower number has both
-  min-name : (x : ℕ) → orderOf f h j x ≡ Equal → symbolText f h (min j x) ≡ symbolText f h x
+  pub min-name : (x : ℕ) → orderOf f h j x ≡ Equal → symbolText f h (min j x) ≡ symbolText f h x
   min-name x e =
       ⊎-elim (λ m. ap (symbolText f h) m ∙ equal-same (symbolText f h j) (symbolText f h x) e) (λ m. ap (symbolText f h) m) (min-either j x)
 
@@ -116,6 +116,25 @@ module _ (f : List ℕ) (h : Header) (j : ℕ) where
             lowest = omega arith;
           }
       by-order Greater e rest = later j x (insertName f h j xs) rest
+
+  -- a symbol whose name is there, under no higher number, adds nothing
+  pub put-again : (xs : List ℕ) → Rising f h xs → Has f h j xs → insertName f h j xs ≡ xs
+  unfolding insertName
+  put-again [] r k = absurd (k .is)
+  put-again (x ∷ xs) r k = ⊎-elim here (λ q. behind q (put-again xs (r .1) (record { entry = k .entry; is = q; named = k .named; lowest = k .lowest }))) (k .is)
+    where
+      here : k .entry ≡ x → byOrder (orderOf f h j x) (j ∷ x ∷ xs) (min j x ∷ xs) (x ∷ insertName f h j xs) ≡ x ∷ xs
+      here e =
+          let n : symbolText f h x ≡ symbolText f h j = ap (symbolText f h) (sym e) ∙ k .named in
+          let o : orderOf f h j x ≡ Equal = rw n (compare-self (symbolText f h j)) in
+          let m : min j x ≡ x = let l = k .lowest in omega arith in
+          rw (o, m)
+
+      behind : In (k .entry) xs → insertName f h j xs ≡ xs → byOrder (orderOf f h j x) (j ∷ x ∷ xs) (min j x ∷ xs) (x ∷ insertName f h j xs) ≡ x ∷ xs
+      behind q rest =
+          let l : orderOf f h x j ≡ Less = ap (compareBytes (symbolText f h x)) (sym (k .named)) ∙ r .0 (k .entry) q in
+          let o : orderOf f h j x ≡ Greater = compare-turned (symbolText f h x) (symbolText f h j) ∙ ap turned l in
+          rw (o, rest)
 
 pub insert-grows : (f : List ℕ) (h : Header) (j : ℕ) (xs : List ℕ) → length xs ≤ length (insertName f h j xs)
 unfolding insertName

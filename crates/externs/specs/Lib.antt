@@ -1,9 +1,11 @@
-pub mod Puts
 pub mod Externs
 pub mod Held
+pub mod Keys
 pub mod Slot
 pub mod SlotLaws
 pub mod Inserting
+pub mod Seen
 pub mod ExternLaws
 pub mod Bisect
 pub mod BisectLaws
+pub mod Slotted

@@ -1,19 +1,29 @@
 // The extern names, from get_coff_extern_names: kept as symbol numbers, sorted by the bytes of their names.
-use kinds::Place;
-use kinds::SymbolKind;
 use names::Order;
+use names::Span;
 use object::Header;
 ghost use mathlib.Core.Path.{_≡_};
+ghost use mathlib.Core.List.{[], _∷_};
 ghost use Prim.Native.Nat.{_+_, _-_, _≤_, _<_};
 ghost use lib.ListN.{length, replicate};
 ghost use Rattle.le.specs.Le.{splice};
 ghost use Rattle.object.specs.Section.{relocationCount};
-ghost use Rattle.object.specs.Symbol.{isOwn};
+ghost use Rattle.codes.specs.Code.{putsIn};
+ghost use Rattle.names.specs.Name.{spanText, symbolText};
 ghost use Rattle.limits.specs.Limits.{MAX-EXTERNS, EXTERN-ROOM};
-ghost use Rattle.externs.specs.Puts.{sectionIsNamed, someSectionNamed, outside, missing, isCommon, putsName, puts};
 ghost use Rattle.externs.specs.Externs.{externRecords, externsBy, namesOf, slotWords, Holds};
 ghost use Rattle.externs.specs.Held.{held, putAt, lowerAt, Placed, Inserted};
-ghost use Rattle.externs.specs.Bisect.{nameOrder, bisect};
+ghost use Rattle.externs.specs.Keys.{symbolKey, Skipped, PutBoth, InStep};
+ghost use Rattle.externs.specs.Bisect.{nameOrder};
+ghost use Rattle.externs.specs.Inserting.{Rising};
+ghost use Rattle.externs.specs.Seen.{isSeen, noted, Seen, Kept, KeptFor};
+ghost use Rattle.externs.specs.Slot.{slotOf};
+ghost use Rattle.externs.specs.Slotted.{foundCode, slottedCode, slottedAt, slotted, codesAfter};
+
+// The cells of the table of symbols whose names were put.
+const SEEN: usize = 1024;
+// Below it a symbol's number, counted from 1, fits a cell.
+const NOTED: u32 = 0xFFFF;
 
 // How many names there are, or more than the limit.
 pub enum Names {
@@ -33,114 +43,46 @@ enum Spot {
     Present(usize),
 }
 
-fn section_is_named(f: &[u8], h: Header, name: &[u8], i: u32) -> bool
-    ensures { λ r. ⌜ r ≡ sectionIsNamed (now (f .entry)) h (now (name .entry)) i ⌝ }
-{
-    names::same(names::section_text(f, h, i), name)
-}
-
-// Some file section, loaded or not, has that name.
-pub fn some_section_named(f: &[u8], h: Header, name: &[u8]) -> bool
-    ensures { λ r. ⌜ r ≡ someSectionNamed (now (f .entry)) h (now (name .entry)) ⌝ }
-{
-    let n = h.sections as u32;
-    let mut i: u32 = 0;
-    while i < n {
-        if section_is_named(f, h, name, i) {
-            return true;
-        }
-        i += 1;
-    }
-    false
-}
-
-// Symbol j's name goes among the externs, if a relocation names it.
-fn puts_name(f: &[u8], h: Header, j: u32) -> bool
-    ensures { λ r. ⌜ r ≡ putsName (now (f .entry)) h j ⌝ }
-{
-    let place = object::symbol_place(f, h, j);
-    match object::symbol_kind(f, h, j) {
-        SymbolKind::Data => is_outside(place),
-        SymbolKind::Text => is_outside(place),
-        SymbolKind::Section => {
-            if is_missing(place) {
-                !some_section_named(f, h, names::symbol_text(f, h, j))
-            } else {
-                false
-            }
-        }
-        SymbolKind::Unknown => is_common(place),
-        SymbolKind::File => false,
-        SymbolKind::Label => false,
-    }
-}
-
-fn is_outside(p: Place) -> bool
-    ensures { λ r. ⌜ r ≡ outside p ⌝ }
-{
-    match p {
-        Place::In(_) => false,
-        Place::Undefined => true,
-        Place::Common => true,
-        Place::Absolute => false,
-        Place::Nowhere => false,
-        Place::Other => true,
-    }
-}
-
-fn is_missing(p: Place) -> bool
-    ensures { λ r. ⌜ r ≡ missing p ⌝ }
-{
-    match p {
-        Place::In(_) => false,
-        Place::Undefined => true,
-        Place::Common => true,
-        Place::Absolute => false,
-        Place::Nowhere => false,
-        Place::Other => false,
-    }
-}
-
-fn is_common(p: Place) -> bool
-    ensures { λ r. ⌜ r ≡ isCommon p ⌝ }
-{
-    match p {
-        Place::In(_) => false,
-        Place::Undefined => false,
-        Place::Common => true,
-        Place::Absolute => false,
-        Place::Nowhere => false,
-        Place::Other => false,
-    }
-}
-
-// Relocation k of section i puts its symbol's name there.
-fn puts(f: &[u8], h: Header, own: &[u8], i: u32, k: u32) -> bool
-    ensures { λ r. ⌜ r ≡ puts (now (f .entry)) h (isOwn (now (own .entry))) i k ⌝ }
-{
-    let j = object::relocation_symbol(f, h, i, k);
-    if object::is_own(own, j) {
-        puts_name(f, h, j)
-    } else {
-        false
-    }
-}
-
 // The order of a name and that of symbol x.
-fn name_order(f: &[u8], h: Header, name: &[u8], x: u32) -> Order
-    ensures { λ r. ⌜ r ≡ nameOrder (now (f .entry)) h (now (name .entry)) x ⌝ }
+fn name_order(f: &[u8], h: Header, name: Span, x: u32) -> Order
+    ensures { λ r. ⌜ r ≡ nameOrder (now (f .entry)) h (spanText (now (f .entry)) name) x ⌝ }
 {
-    names::compare(name, names::symbol_text(f, h, x))
+    order::compare(f, name, names::symbol_span(f, h, x))
 }
 
-// Where j goes among the first n, or where its name is.
-fn find(f: &[u8], h: Header, slots: &[u32], n: usize, j: u32) -> Spot
-    requires { ⌜ n ≤ length (now slots) ⌝ }
+// From p on, behind all keys that are lower, of the first n.
+fn skip(keys: &[u64], n: usize, p: usize, key: u64) -> usize
+    requires { ⌜ (n ≤ length (now keys)) × (p ≤ n) ⌝ }
+    ensures { λ r. ⌜ Skipped (now (keys .entry)) n p key r ⌝ }
+{
+    let mut q = p;
+    while q < n {
+        if key <= keys[q] {
+            return q;
+        }
+        q += 1;
+    }
+    q
+}
+
+// The key of symbol j's name.
+fn symbol_key(f: &[u8], h: Header, j: u32) -> u64
+    ensures { λ r. ⌜ r ≡ symbolKey (now (f .entry)) h j ⌝ }
+{
+    order::key(f, names::symbol_span(f, h, j))
+}
+
+// Where j, whose name has that key, goes among the first n, or where its name is. Only names with equal keys are compared.
+fn find(f: &[u8], h: Header, slots: &[u32], keys: &[u64], n: usize, j: u32, key: u64) -> Spot
+    requires { ⌜ (n ≤ length (now slots)) × (n ≤ length (now keys)) × InStep (now f) h (now slots) (now keys) n × (key ≡ symbolKey (now f) h j) ⌝ }
     ensures { λ r. ⌜ Placed (now (f .entry)) h j n (held n (now (slots .entry))) r ⌝ }
 {
-    let name = names::symbol_text(f, h, j);
-    let mut p = 0;
+    let name = names::symbol_span(f, h, j);
+    let mut p = skip(keys, n, 0, key);
     while p < n {
+        if key < keys[p] {
+            return Spot::Before(p);
+        }
         match name_order(f, h, name, slots[p]) {
             Order::Less => {
                 return Spot::Before(p);
@@ -149,7 +91,7 @@ fn find(f: &[u8], h: Header, slots: &[u32], n: usize, j: u32) -> Spot
                 return Spot::Present(p);
             }
             Order::Greater => {
-                p += 1;
+                p = skip(keys, n, p + 1, key);
             }
         }
     }
@@ -169,6 +111,27 @@ fn put(slots: &mut [u32], n: usize, p: usize, j: u32)
     slots[p] = j;
 }
 
+// The same for its key.
+fn put_key(keys: &mut [u64], n: usize, p: usize, key: u64)
+    requires { ⌜ (n < length (now keys)) × (p ≤ n) ⌝ }
+    ensures { λ r. ⌜ held (n + 1) (now (keys .exit)) ≡ putAt p key (held n (now (keys .entry))) ⌝ }
+{
+    let mut q = n;
+    while p < q {
+        keys[q] = keys[q - 1];
+        q -= 1;
+    }
+    keys[p] = key;
+}
+
+fn put_both(slots: &mut [u32], keys: &mut [u64], n: usize, p: usize, j: u32, key: u64)
+    requires { ⌜ (n < length (now slots)) × (n < length (now keys)) × (p ≤ n) ⌝ }
+    ensures { λ r. ⌜ PutBoth (now (slots .entry)) (now (keys .entry)) n p j key (now (slots .exit)) (now (keys .exit)) ⌝ }
+{
+    put(slots, n, p, j);
+    put_key(keys, n, p, key);
+}
+
 // Of two symbols with one name, the lower number stays at p.
 fn lower(slots: &mut [u32], n: usize, p: usize, j: u32)
     requires { ⌜ (n < length (now slots)) × (p < n) ⌝ }
@@ -179,14 +142,16 @@ fn lower(slots: &mut [u32], n: usize, p: usize, j: u32)
     }
 }
 
-fn insert(f: &[u8], h: Header, slots: &mut [u32], n: usize, j: u32) -> usize
-    requires { ⌜ n < length (now slots) ⌝ }
+fn insert(f: &[u8], h: Header, slots: &mut [u32], keys: &mut [u64], n: usize, j: u32) -> usize
+    requires { ⌜ (n < length (now slots)) × (n < length (now keys)) × InStep (now f) h (now slots) (now keys) n ⌝ }
     ensures { λ r. ⌜ Inserted (now (f .entry)) h j (now (slots .entry)) n (now (slots .exit)) r ⌝ }
+    ensures { λ r. ⌜ InStep (now (f .entry)) h (now (slots .exit)) (now (keys .exit)) r ⌝ }
 {
-    let spot = find(f, h, slots, n, j);
+    let key = symbol_key(f, h, j);
+    let spot = find(f, h, slots, keys, n, j, key);
     match spot {
         Spot::Before(p) => {
-            put(slots, n, p, j);
+            put_both(slots, keys, n, p, j, key);
             n + 1
         }
         Spot::Present(p) => {
@@ -196,22 +161,73 @@ fn insert(f: &[u8], h: Header, slots: &mut [u32], n: usize, j: u32) -> usize
     }
 }
 
-// Inserts what the relocations of section i put into the first n.
-fn add_records(f: &[u8], h: Header, own: &[u8], slots: &mut [u32], n: usize, i: u32) -> Names
-    requires { ⌜ (n ≤ MAX-EXTERNS) × (MAX-EXTERNS < length (now slots)) ⌝ }
-    ensures { λ r.
-        ⌜ Holds (externRecords (now (f .entry)) h (isOwn (now (own .entry))) i (held n (now (slots .entry))) (relocationCount (now (f .entry)) h i)) (now (slots .exit)) r ⌝ }
+// Symbol j's cell has its number.
+fn is_seen(seen: &[u16], j: u32) -> bool
+    ensures { λ r. ⌜ r ≡ isSeen (now (seen .entry)) j ⌝ }
 {
-    let m = object::relocation_count(f, h, i);
+    codes::code_at(seen, j % SEEN as u32) as u64 == j as u64 + 1
+}
+
+fn note(seen: &mut [u16], j: u32)
+    ensures { λ _. ⌜ now (seen .exit) ≡ noted (now (seen .entry)) j ⌝ }
+{
+    if j < NOTED {
+        codes::put_code(seen, j % SEEN as u32, (j + 1) as u16);
+    }
+}
+
+// Inserts j, unless it was seen: a second insertion would change nothing.
+fn add(
+    f: &[u8],
+    h: Header,
+    slots: &mut [u32],
+    keys: &mut [u64],
+    seen: &mut [u16],
+    n: usize,
+    j: u32,
+) -> usize
+    requires { ⌜ (n < length (now slots)) × (n < length (now keys)) × Kept (now f) h (now slots) (now keys) (now seen) n ⌝ }
+    ensures { λ r. ⌜ Inserted (now (f .entry)) h j (now (slots .entry)) n (now (slots .exit)) r ⌝ }
+    ensures { λ r. ⌜ Kept (now (f .entry)) h (now (slots .exit)) (now (keys .exit)) (now (seen .exit)) r ⌝ }
+{
+    if is_seen(seen, j) {
+        n
+    } else {
+        let next = insert(f, h, slots, keys, n, j);
+        note(seen, j);
+        next
+    }
+}
+
+// Inserts what the relocations of section i put into the first n.
+fn add_records(
+    f: &[u8],
+    h: Header,
+    codes: &[u16],
+    slots: &mut [u32],
+    keys: &mut [u64],
+    seen: &mut [u16],
+    n: usize,
+    i: u32,
+) -> Names
+    requires { ⌜ (n ≤ MAX-EXTERNS) × (MAX-EXTERNS < length (now slots)) × (MAX-EXTERNS < length (now keys)) × Kept (now f) h (now slots) (now keys) (now seen) n ⌝ }
+    ensures { λ r.
+        ⌜ Holds (externRecords (now (f .entry)) h (putsIn (now (codes .entry))) i (held n (now (slots .entry))) (relocationCount (now (f .entry)) h i)) (now (slots .exit)) r ⌝ }
+    ensures { λ r. ⌜ KeptFor (now (f .entry)) h (now (slots .exit)) (now (keys .exit)) (now (seen .exit)) r ⌝ }
+{
+    let records = object::records_of(f, h, i);
+    let m = records.count;
     let mut count = n;
     let mut k: u32 = 0;
     while k < m {
-        if puts(f, h, own, i, k) {
-            let r = insert(f, h, slots, count, object::relocation_symbol(f, h, i, k));
-            if limits::MAX_EXTERNS < r {
+        let r = object::read_relocation(f, records, k);
+        let j = r.symbol;
+        if codes::puts_in(codes, j) {
+            let next = add(f, h, slots, keys, seen, count, j);
+            if limits::MAX_EXTERNS < next {
                 return Names::TooMany;
             }
-            count = r;
+            count = next;
             k += 1;
         } else {
             k += 1;
@@ -220,15 +236,23 @@ fn add_records(f: &[u8], h: Header, own: &[u8], slots: &mut [u32], n: usize, i: 
     Names::Count(count)
 }
 
-fn fill(f: &[u8], h: Header, own: &[u8], slots: &mut [u32]) -> Names
-    requires { ⌜ MAX-EXTERNS < length (now slots) ⌝ }
-    ensures { λ r. ⌜ Holds (externsBy (now (f .entry)) h (isOwn (now (own .entry)))) (now (slots .exit)) r ⌝ }
+// `keys` are those of the names that `slots` holds, `seen` symbols that have such a name.
+fn fill(
+    f: &[u8],
+    h: Header,
+    codes: &[u16],
+    slots: &mut [u32],
+    keys: &mut [u64],
+    seen: &mut [u16],
+) -> Names
+    requires { ⌜ (MAX-EXTERNS < length (now slots)) × (MAX-EXTERNS < length (now keys)) × Seen (now f) h (now seen) [] ⌝ }
+    ensures { λ r. ⌜ Holds (externsBy (now (f .entry)) h (putsIn (now (codes .entry)))) (now (slots .exit)) r ⌝ }
 {
     let m = h.sections as u32;
     let mut count: usize = 0;
     let mut i: u32 = 0;
     while i < m {
-        match add_records(f, h, own, slots, count, i) {
+        match add_records(f, h, codes, slots, keys, seen, count, i) {
             Names::TooMany => {
                 return Names::TooMany;
             }
@@ -253,30 +277,12 @@ fn clear(slots: &mut [u32], from: usize)
     }
 }
 
-// The names of all relocations, into `slots`, and how many they are; where they are too many nothing is kept.
-// The length is said again for a caller, who knows no more of a lent array than this.
-pub fn collect(f: &[u8], h: Header, own: &[u8], slots: &mut [u32; limits::EXTERN_ROOM]) -> Names
-    ensures { λ r. ⌜ r ≡ namesOf (externsBy (now (f .entry)) h (isOwn (now (own .entry)))) ⌝ }
-    ensures { λ r. ⌜ now (slots .exit) ≡ slotWords (externsBy (now (f .entry)) h (isOwn (now (own .entry)))) ⌝ }
-    ensures { λ r. ⌜ length (now (slots .exit)) ≡ EXTERN-ROOM ⌝ }
+// The slot of symbol j's name: its index in the list of externs, which is sorted. Of the n entries from lo the middle one decides.
+fn slot_of(f: &[u8], h: Header, slots: &[u32], j: u32) -> Found
+    requires { ⌜ Rising (now f) h (now slots) ⌝ }
+    ensures { λ r. ⌜ r ≡ slotOf (now (f .entry)) h (now (slots .entry)) (symbolText (now (f .entry)) h j) ⌝ }
 {
-    let found = fill(f, h, own, slots);
-    match found {
-        Names::TooMany => {
-            clear(slots, 0);
-            Names::TooMany
-        }
-        Names::Count(n) => {
-            clear(slots, n);
-            Names::Count(n)
-        }
-    }
-}
-
-// The slot of a name: its index in the list of externs, which is sorted. Of the n entries from lo the middle one decides.
-pub fn slot_of(f: &[u8], h: Header, slots: &[u32], name: &[u8]) -> Found
-    ensures { λ r. ⌜ r ≡ bisect (now (f .entry)) h (now (slots .entry)) (now (name .entry)) ⌝ }
-{
+    let name = names::symbol_span(f, h, j);
     let mut lo: usize = 0;
     let mut n = slots.len();
     while 0 < n {
@@ -296,4 +302,76 @@ pub fn slot_of(f: &[u8], h: Header, slots: &[u32], name: &[u8]) -> Found
         }
     }
     Found::Nothing
+}
+
+fn found_code(found: Found) -> u16
+    ensures { λ r. ⌜ r ≡ foundCode found ⌝ }
+{
+    match found {
+        Found::Index(e) => (e % codes::SPAN as usize + codes::SLOTS as usize) as u16,
+        Found::Nothing => codes::NO_SLOT,
+    }
+}
+
+// Symbol j's code, once the names are known.
+fn slotted_code(f: &[u8], h: Header, slots: &[u32], j: u32, c: u16) -> u16
+    requires { ⌜ Rising (now f) h (now slots) ⌝ }
+    ensures { λ r. ⌜ r ≡ slottedCode c (slotOf (now (f .entry)) h (now (slots .entry)) (symbolText (now (f .entry)) h j)) ⌝ }
+{
+    if util::either(c == codes::SLOT, c == codes::EXTERN) {
+        found_code(slot_of(f, h, slots, j))
+    } else {
+        c
+    }
+}
+
+// The slot of symbol j, into its code.
+fn put_slot(f: &[u8], h: Header, slots: &[u32], codes: &mut [u16], j: u32)
+    requires { ⌜ Rising (now f) h (now slots) ⌝ }
+    ensures { λ _. ⌜ now (codes .exit) ≡ splice (now (codes .entry)) j (slottedAt (now (f .entry)) h (now (slots .entry)) (now (codes .entry)) j ∷ []) ⌝ }
+{
+    let c = slotted_code(f, h, slots, j, codes::code_at(codes, j));
+    codes::put_code(codes, j, c);
+}
+
+// The slots of all symbols, into their codes.
+fn put_slots(f: &[u8], h: Header, slots: &[u32], codes: &mut [u16])
+    requires { ⌜ Rising (now f) h (now slots) ⌝ }
+    ensures { λ _. ⌜ now (codes .exit) ≡ slotted (now (f .entry)) h (now (slots .entry)) (now (codes .entry)) ⌝ }
+{
+    let m = h.symbols;
+    let mut j: u32 = 0;
+    while j < m {
+        put_slot(f, h, slots, codes, j);
+        j += 1;
+    }
+}
+
+// The names of all relocations, into `slots`, and how many they are, with each symbol's slot in its code; where they are too many nothing is kept.
+// The length is said again for a caller, who knows no more of a lent array than this.
+pub fn collect(
+    f: &[u8],
+    h: Header,
+    codes: &mut [u16],
+    slots: &mut [u32; limits::EXTERN_ROOM],
+) -> Names
+    ensures { λ r. ⌜ r ≡ namesOf (externsBy (now (f .entry)) h (putsIn (now (codes .entry)))) ⌝ }
+    ensures { λ r. ⌜ now (slots .exit) ≡ slotWords (externsBy (now (f .entry)) h (putsIn (now (codes .entry)))) ⌝ }
+    ensures { λ r. ⌜ length (now (slots .exit)) ≡ EXTERN-ROOM ⌝ }
+    ensures { λ r. ⌜ now (codes .exit) ≡ codesAfter (now (f .entry)) h (now (codes .entry)) (externsBy (now (f .entry)) h (putsIn (now (codes .entry)))) ⌝ }
+{
+    let mut keys = [0u64; limits::EXTERN_ROOM];
+    let mut seen = [0u16; SEEN];
+    let found = fill(f, h, codes, slots, &mut keys, &mut seen);
+    match found {
+        Names::TooMany => {
+            clear(slots, 0);
+            Names::TooMany
+        }
+        Names::Count(n) => {
+            clear(slots, n);
+            put_slots(f, h, le::words(slots, n), codes);
+            Names::Count(n)
+        }
+    }
 }

@@ -1,38 +1,32 @@
 -- The ways through the code. Assumes nothing.
-use mathlib.Core.Path.{_≡_}
+use mathlib.Core.Path.{_≡_, refl}
 use mathlib.Core.Bool.{Bool, true, false}
 use mathlib.Core.List.{List}
-use Prim.Native.Nat.{ℕ, _+_, _<_, _%_, _^_}
+use Prim.Native.Nat.{ℕ, zero, suc, _+_, _-_, _<_, _%_, _^_}
 use native.Mathlib.Omega.{arith}
-use lib.Dec.{leb}
 use Rattle.util.specs.Pick.{pick}
-use Rattle.object.specs.declared.Header.{Header}
-use Rattle.kinds.specs.declared.SymbolKind.the-variants.{Unknown}
-use Rattle.kinds.specs.declared.Place.the-variants.{Absolute}
-use Rattle.object.specs.Symbol.{kind}
-use Rattle.externs.specs.declared.Found.{Found}
 use Rattle.arch.specs.declared.Arch.{Arch}
 use Rattle.arch.specs.declared.RVA.{RVA}
-use Rattle.arch.specs.declared.Offset.{Offset}
-use Rattle.arch.specs.declared.Offset.the-variants.{At, None}
+use Rattle.arch.specs.declared.Offset.the-variants.{At}
 use Rattle.arch.specs.Address.{rva}
 use Rattle.kinds.specs.declared.RelocationKind.{RelocationKind}
 use Rattle.kinds.specs.declared.RelocationKind.the-variants as reloc
 use Rattle.kinds.specs.declared.RelocationType.{RelocationType}
-use Rattle.object.specs.Relocation.{relocationAddress, relocationSymbol, relocationType}
+use Rattle.object.specs.declared.Records.{Records}
+use Rattle.object.specs.declared.Relocation.{Relocation}
+use Rattle.object.specs.Relocation.{relocationIn, recordAt}
 use Rattle.kinds.specs.Types.{typeOf}
-use Rattle.homes.specs.Home.{Low}
+use Rattle.homes.specs.Home.{wordHome}
 use Rattle.fixups.specs.declared.Fix.{Fix}
 use Rattle.fixups.specs.declared.Outcome.{Outcome}
 use Rattle.fixups.specs.declared.Outcome.the-variants.{Passed, Skipped, Refused, Fixup}
-use Rattle.fixups.specs.Outcome.{byKind, fixAt, resolved, bySymbol, ofHome, atHome, outcome}
+use Rattle.fixups.specs.Outcome.{byKind, fixAt, resolved, byHome}
 use Rattle.fixups.specs.Value.{isRelative, valueOf}
 use Rattle.targets.specs.declared.Skip.{Skip}
-use Rattle.targets.specs.declared.Skip.the-variants.{NoSymbol, NoType}
+use Rattle.targets.specs.declared.Skip.the-variants.{NoType}
 use Rattle.targets.specs.declared.Target.{Target}
 use Rattle.targets.specs.declared.Target.the-variants as target
 use Rattle.targets.specs.declared.Target.the-variants.{Home, Named, Slot, Missing}
-use Rattle.targets.specs.Target.{targetOf}
 
 -- ---- outcomes
 module _ (k : RelocationKind) (x : Fix) where
@@ -85,43 +79,26 @@ module _ (g : Target) (t : RelocationType) (place : RVA) where
 
 pub ruleset resolving = (resolved-home, resolved-named, resolved-slot, resolved-missing, resolved-refused)
 
-module _ (f : List ℕ) (h : Header) (own : ℕ → Bool) (home : ℕ → Offset) (undef : ℕ) (slot : List ℕ → Found) (j : ℕ) (t : RelocationType) (place : RVA) where
-  pub symbol-none : leb (h .symbols) j ≡ true → Skipped NoSymbol ≡ bySymbol f h own home undef slot j t place
-  unfolding bySymbol pick
-  symbol-none e = rw e
+module _ (a : Arch) (target : ℕ → Target) (r : Relocation) where
+  pub home-at : (start : ℕ) (t : RelocationType) (g : Target) (x : Outcome) → t ≡ typeOf a (r .typ) → g ≡ target (r .symbol)
+      → x ≡ resolved g t (rva (start + r .address)) → x ≡ byHome a target (At (rva start)) r
+  unfolding byHome
+  home-at start t g x e q p = rw (← e, ← q) p
 
-  pub symbol-own : (b : Bool) (g : Target) (r : Outcome) → leb (h .symbols) j ≡ false → b ≡ own j → b ≡ true → g ≡ targetOf f h home undef slot j → r ≡ resolved g t place → r ≡ bySymbol f h own home undef slot j t place
-  unfolding bySymbol pick
-  symbol-own b g r e q d p w = rw (e, ← q, d, ← p) w
+pub word-none : (a : Arch) (target : ℕ → Target) (r : Relocation) (w : ℕ) → w ≡ 0 → Passed ≡ byHome a target (wordHome w) r
+unfolding byHome wordHome
+word-none a target r w e = rw e
 
-  pub symbol-auxiliary : (b : Bool) → leb (h .symbols) j ≡ false → b ≡ own j → b ≡ false → Refused ≡ bySymbol f h own home undef slot j t place
-  unfolding bySymbol pick
-  symbol-auxiliary b e q d = rw (e, ← q, d)
+home-word : (w : ℕ) → (w ≡ 0 → ⊥) → wordHome w ≡ At (rva (w - 1))
+unfolding wordHome
+home-word zero n = absurd (n refl)
+home-word (suc w) n = let e : suc w - 1 ≡ w = omega arith in rw e
 
-pub ruleset symbol-ways = (symbol-none, symbol-own, symbol-auxiliary)
+pub word-some : (a : Arch) (target : ℕ → Target) (f : List ℕ) (rs : Records) (k w : ℕ) (r : Relocation) (x : Outcome) → (w ≡ 0 → ⊥)
+    → r ≡ relocationIn f (recordAt rs k) → x ≡ byHome a target (At (rva (w - 1))) r → x ≡ byHome a target (wordHome w) (relocationIn f (recordAt rs k))
+word-some a target f rs k w r x n e q = rw (home-word w n, ← e) q
 
-module _ (a : Arch) (f : List ℕ) (h : Header) (own : ℕ → Bool) (home : ℕ → Offset) (undef : ℕ) (slot : List ℕ → Found) (i k : ℕ) where
-  pub home-at : (start : RVA) (j n at : ℕ) (t : RelocationType) (r : Outcome)
-      → at ≡ relocationAddress f h i k → n ≡ relocationType f h i k → t ≡ typeOf a n → j ≡ relocationSymbol f h i k
-      → r ≡ bySymbol f h own home undef slot j t (rva (start .0 + at)) → r ≡ atHome a f h own home undef slot i k start
-  unfolding atHome
-  home-at start j n at t r p w d s g = rw (← p, ← w, ← d, ← s) g
-
-  module _ (x : Offset) (is : x ≡ home i) where
-    pub outcome-passed : x ≡ None → Passed ≡ outcome a f h own home undef slot i k
-    unfolding outcome ofHome
-    outcome-passed e = rw (← is, e)
-
-    pub outcome-home : (start : RVA) (r : Outcome) → x ≡ At start → r ≡ atHome a f h own home undef slot i k start → r ≡ outcome a f h own home undef slot i k
-    unfolding outcome ofHome
-    outcome-home start r e q = rw (← is, e) q
-
--- the start of a home that is read from its word is low
-pub home-low : (x : Offset) (start : RVA) → Low x → x ≡ At start → start .0 < 2 ^ 32
-unfolding Low
-home-low x start l e = rw e at l
-
-pub ruleset outcome-ways = (home-at, outcome-passed, outcome-home, home-low)
+pub ruleset outcome-ways = (home-at, word-none, word-some)
 
 -- ---- values
 module _ (base : ℕ) (x : Fix) (s r : ℕ) (b : Bool) where

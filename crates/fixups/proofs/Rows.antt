@@ -1,11 +1,22 @@
 -- The pass over all relocations: its loops, and that it counts what `tallyOf` counts. Assumes nothing.
 use mathlib.Core.Path.{_≡_, refl, ap, _∙_}
 use mathlib.Core.Bool.{Bool, true, false}
+use mathlib.Core.List.{List}
 use Prim.Native.Nat.{ℕ, zero, suc, _+_, _*_, _≤_, _<_, _^_}
 use native.Mathlib.Omega.{arith}
 use native.Mathlib.Numerals.{add-one}
 use Rattle.util.specs.Pick.{pick}
+use lib.ListN.{getD}
 use Rattle.util.specs.Prefix.{sumTo, countTo}
+use Rattle.arch.specs.declared.Arch.{Arch}
+use Rattle.arch.specs.declared.Offset.{Offset}
+use Rattle.object.specs.declared.Header.{Header}
+use Rattle.object.specs.declared.Records.{Records}
+use Rattle.object.specs.Relocation.{relocationIn, recordsOf, recordAt, count-read}
+use Rattle.object.specs.Section.{relocationCount}
+use Rattle.homes.specs.Home.{wordHome, homeIn}
+use Rattle.targets.specs.declared.Target.{Target}
+use Rattle.fixups.specs.Outcome.{byHome, outcome, readOutcome, read-outcome}
 use Rattle.targets.specs.declared.Skip.{Skip}
 use Rattle.fixups.specs.declared.Fix.{Fix}
 use Rattle.fixups.specs.declared.Outcome.{Outcome}
@@ -165,3 +176,24 @@ pub none-within : AtMost (record { passed = 0; skips = 0; refused = 0; fixups = 
 none-within = record { passed = omega arith; skips = omega arith; refused = omega arith; fixups = omega arith; outside = omega arith }
 
 pub ruleset rows-loop = (rows-none, rows-again, rows-end, counted-near, none-within)
+
+-- ---- a section by what is found once for it
+pub read-is : (a : Arch) (f : List ℕ) (target : ℕ → Target) (rs : Records) (home : Offset) (i k : ℕ) (x : Outcome)
+    → x ≡ byHome a target home (relocationIn f (recordAt rs k)) → x ≡ readOutcome a f target rs home i k
+unfolding readOutcome
+read-is a f target rs home i k x e = e
+
+rows-same : (pages : ℕ) (o p : ℕ → ℕ → Outcome) (i : ℕ) (t : Tally) → ((k : ℕ) → o i k ≡ p i k) → (k : ℕ) → rowTo pages o i t k ≡ rowTo pages p i t k
+unfolding rowTo
+rows-same pages o p i t e zero = refl
+rows-same pages o p i t e (suc k) = rw (rows-same pages o p i t e k, e k)
+
+pub section-end : (a : Arch) (f : List ℕ) (h : Header) (homes : List ℕ) (target : ℕ → Target) (pages i : ℕ) (rs : Records) (w : ℕ) (t s : Tally) (k : ℕ)
+    → s ≡ rowTo pages (readOutcome a f target rs (wordHome w)) i t k → rs ≡ recordsOf f h i → w ≡ getD homes i 0 → AtMost s (2 ^ 32 * i + k)
+    → k ≤ rs .count → rs .count ≤ k → rs .count < 2 ^ 32 → Counted (rowTo pages (outcome a f h (homeIn homes) target) i t (relocationCount f h i)) i s
+section-end a f h homes target pages i rs w t s k e q z m b c d =
+    row-end pages (outcome a f h (homeIn homes) target) i t k (rs .count) (relocationCount f h i) s
+    (e ∙ rows-same pages (readOutcome a f target rs (wordHome w)) (outcome a f h (homeIn homes) target) i t (read-outcome a f h homes target i rs w q z) k) m b c
+    (count-read f h i rs q) d
+
+pub ruleset section-loop = (row-none, row-again, read-is, section-end, within-again, within-room)

@@ -1,9 +1,8 @@
 -- What becomes of relocation k of section i: passed, skipped for a reason, refused by 10, or a fixup (01, "Layout, slots and fixups").
-use mathlib.Core.Bool.{Bool}
+use mathlib.Core.Path.{_≡_, refl, ap, _∙_}
 use mathlib.Core.List.{List}
 use Prim.Native.Nat.{ℕ, _+_}
-use lib.Dec.{leb}
-use Rattle.util.specs.Pick.{pick}
+use lib.ListN.{getD}
 use Rattle.arch.specs.declared.Arch.{Arch}
 use Rattle.arch.specs.declared.RVA.{RVA}
 use Rattle.arch.specs.declared.Offset.{Offset}
@@ -13,17 +12,18 @@ use Rattle.object.specs.declared.Header.{Header}
 use Rattle.kinds.specs.declared.RelocationKind.{RelocationKind}
 use Rattle.kinds.specs.declared.RelocationKind.the-variants.{Absolute, ImageOffset, SectionOffset, Relative, NotCarried, Unknown}
 use Rattle.kinds.specs.declared.RelocationType.{RelocationType}
-use Rattle.object.specs.Relocation.{relocationAddress, relocationSymbol, relocationType}
+use Rattle.object.specs.declared.Relocation.{Relocation}
+use Rattle.object.specs.declared.Records.{Records}
+use Rattle.object.specs.Relocation.{relocationIn, relocation, recordsOf, recordAt, relocation-read}
+use Rattle.homes.specs.Home.{wordHome, homeIn}
 use Rattle.kinds.specs.Types.{typeOf}
-use Rattle.externs.specs.declared.Found.{Found}
-use Rattle.targets.specs.declared.Skip.the-variants.{NoSymbol, NoType}
+use Rattle.targets.specs.declared.Skip.the-variants.{NoType}
 use Rattle.targets.specs.declared.Target.{Target}
 use Rattle.targets.specs.declared.Target.the-variants as target
 use Rattle.targets.specs.declared.Target.the-variants.{Home, Named, Slot, Missing}
 use Rattle.fixups.specs.declared.Fix.{Fix}
 use Rattle.fixups.specs.declared.Outcome.{Outcome}
 use Rattle.fixups.specs.declared.Outcome.the-variants.{Passed, Skipped, Refused, Fixup}
-use Rattle.targets.specs.Target.{targetOf}
 
 -- with place and target known, the type decides: an unknown one is skipped, one that is not carried is refused
 unfoldable pub byKind : RelocationKind → Fix → Outcome
@@ -49,25 +49,24 @@ resolved (Slot o) t place = fixAt t place o
 resolved (Missing k) t place = Skipped k
 resolved target.Refused t place = Refused
 
--- `own` says which numbers are symbols', `home` where a section's home starts, `slot` finds a name's slot
-module _ (f : List ℕ) (h : Header) (own : ℕ → Bool) (home : ℕ → Offset) (undef : ℕ) (slot : List ℕ → Found) where
-  -- by the symbol's number j: no record of that number is K1; an auxiliary record is refused
-  unfoldable pub bySymbol : ℕ → RelocationType → RVA → Outcome
-  bySymbol j t place =
-      pick (leb (h .symbols) j) (Skipped NoSymbol) (pick (own j) (resolved (targetOf f h home undef slot j) t place) Refused)
+-- a relocation record of a section, by the section's home: without one it is passed; its place is the home's start and the address field.
+-- `target` says what each number of a symbol comes to
+unfoldable pub byHome : Arch → (ℕ → Target) → Offset → Relocation → Outcome
+byHome arch target (At start) r = resolved (target (r .symbol)) (typeOf arch (r .typ)) (rva (start .0 + r .address))
+byHome arch target None r = Passed
 
--- without a home a section's relocations are passed
-unfoldable pub ofHome : Offset → (RVA → Outcome) → Outcome
-ofHome (At start) out = out start
-ofHome None out = Passed
+-- relocation k of section i; `home` says where a section's home starts. Refusal 10's cases are in two places: the symbol's in `targetOf`, the
+-- type that is not carried in `byKind`
+unfoldable pub outcome : Arch → List ℕ → Header → (ℕ → Offset) → (ℕ → Target) → ℕ → ℕ → Outcome
+outcome arch f h home target i k = byHome arch target (home i) (relocation f h i k)
 
-module _ (arch : Arch) (f : List ℕ) (h : Header) (own : ℕ → Bool) (home : ℕ → Offset) (undef : ℕ) (slot : List ℕ → Found) where
-  -- the place is the home's start and the address field. Refusal 10's cases are in three places: the auxiliary record in `bySymbol`, kind and
-  -- place of the symbol in `targetOf`, the type that is not carried in `byKind`
-  unfoldable pub atHome : ℕ → ℕ → RVA → Outcome
-  atHome i k start =
-      bySymbol f h own home undef slot (relocationSymbol f h i k) (typeOf arch (relocationType f h i k)) (rva (start .0 + relocationAddress f h i k))
+-- the same by what is found once for a section: where its records are, and its home (`read-outcome`)
+unfoldable pub readOutcome : Arch → List ℕ → (ℕ → Target) → Records → Offset → ℕ → ℕ → Outcome
+readOutcome arch f target records home i k = byHome arch target home (relocationIn f (recordAt records k))
 
-  -- relocation k of section i
-  unfoldable pub outcome : ℕ → ℕ → Outcome
-  outcome i k = ofHome (home i) (atHome i k)
+pub read-outcome : (arch : Arch) (f : List ℕ) (h : Header) (homes : List ℕ) (target : ℕ → Target) (i : ℕ) (records : Records) (w : ℕ) → records ≡ recordsOf f h i
+    → w ≡ getD homes i 0 → (k : ℕ) → readOutcome arch f target records (wordHome w) i k ≡ outcome arch f h (homeIn homes) target i k
+unfolding outcome readOutcome
+read-outcome arch f h homes target i records w e q k =
+    ap (λ (x : ℕ). byHome arch target (wordHome x) (relocationIn f (recordAt records k))) q
+    ∙ ap (byHome arch target (homeIn homes i)) (relocation-read f h i records (relocationIn f (recordAt records k)) k e refl)

@@ -1,13 +1,11 @@
 -- What a fixup tells of its relocation, and that a home's relocations are not passed; for every file, all homes and all slots.
 use mathlib.Core.Path.{_≡_, refl, sym, ap, _∙_}
-use mathlib.Core.Bool.{Bool, true, false}
+use mathlib.Core.Bool.{false}
 use mathlib.Core.List.{List}
 use mathlib.Core.Logic.{_⊎_, inl, inr, ⊎-elim}
-use Prim.Native.Nat.{ℕ, _+_, _<_}
+use Prim.Native.Nat.{ℕ, _+_}
 use native.Mathlib.Omega.{arith}
-use lib.Dec.{leb}
-use borrow.Author.Tests.{leb-false}
-use Rattle.util.specs.Pick.{pick, yes-no, pick-either}
+use Rattle.util.specs.Pick.{pick-either}
 use Rattle.arch.specs.declared.Arch.{Arch}
 use Rattle.arch.specs.declared.RVA.{RVA}
 use Rattle.arch.specs.declared.Offset.{Offset}
@@ -18,17 +16,15 @@ use Rattle.object.specs.declared.Header.{Header}
 use Rattle.kinds.specs.declared.RelocationKind.{RelocationKind}
 use Rattle.kinds.specs.declared.RelocationKind.the-variants.{Absolute, ImageOffset, SectionOffset, Relative, NotCarried, Unknown}
 use Rattle.kinds.specs.declared.RelocationType.{RelocationType}
-use Rattle.object.specs.Relocation.{relocationAddress, relocationSymbol, relocationType}
+use Rattle.object.specs.Relocation.{relocationIn, relocation, relocationAddress, relocationSymbol, relocationType}
 use Rattle.kinds.specs.Types.{type32, type64, typeOf}
-use Rattle.externs.specs.declared.Found.{Found}
-use Rattle.targets.specs.declared.Skip.the-variants.{NoSymbol, NoType}
+use Rattle.targets.specs.declared.Skip.the-variants.{NoType}
 use Rattle.targets.specs.declared.Target.{Target}
 use Rattle.targets.specs.declared.Target.the-variants as target
 use Rattle.targets.specs.declared.Target.the-variants.{Home, Named, Slot, Missing}
 use Rattle.fixups.specs.declared.Fix.{Fix}
 use Rattle.fixups.specs.declared.Outcome.the-variants.{Passed, Skipped, Refused, Fixup}
-use Rattle.targets.specs.Target.{targetOf}
-use Rattle.fixups.specs.Outcome.{byKind, fixOf, fixAt, resolved, bySymbol, ofHome, atHome, outcome}
+use Rattle.fixups.specs.Outcome.{byKind, fixOf, fixAt, resolved, byHome, outcome}
 use Rattle.fixups.specs.Tally.{isPassed}
 
 -- ---- the types that are carried have 32 or 64 bits
@@ -112,45 +108,21 @@ resolved-fix (Slot o) t place x b e = fix-of (Slot o) t place o x b (record { wa
 resolved-fix (Missing k) t place x b e = absurd (let w : _≡_ {A = ℕ} 0 1 = cc in omega arith)
 resolved-fix target.Refused t place x b e = absurd (let w : _≡_ {A = ℕ} 0 1 = cc in omega arith)
 
-module _ (f : List ℕ) (h : Header) (own : ℕ → Bool) (home : ℕ → Offset) (undef : ℕ) (slot : List ℕ → Found) (j : ℕ) (t : RelocationType) (place : RVA) (x : Fix) where
-  record ByOwn : Type 0 where
-    known : j < h .symbols
-    mine : own j ≡ true
-    resolved : Resolved (targetOf f h home undef slot j) t place x
-
-  own-fix : HasBits t → j < h .symbols → pick (own j) (resolved (targetOf f h home undef slot j) t place) Refused ≡ Fixup x → ByOwn
-  unfolding pick
-  own-fix b l e =
-      ⊎-elim (λ o. record { known = l; mine = o; resolved = resolved-fix (targetOf f h home undef slot j) t place x b (rw o at e) })
-      (λ o. absurd (let z : Refused ≡ Fixup x = rw o at e in let w : _≡_ {A = ℕ} 0 1 = cc in omega arith))
-      (yes-no (own j))
-
-  symbol-fix : HasBits t → bySymbol f h own home undef slot j t place ≡ Fixup x → ByOwn
-  unfolding bySymbol pick
-  symbol-fix b e =
-      ⊎-elim (λ n. absurd (let z : Skipped NoSymbol ≡ Fixup x = rw n at e in let w : _≡_ {A = ℕ} 0 1 = cc in omega arith))
-      (λ n. own-fix b (leb-false (h .symbols) j n) (rw n at e))
-      (yes-no (leb (h .symbols) j))
-
--- of a fixup: its section has a home, its symbol is a symbol's own record, and it is the type's fixup at home start + address field
-pub record FixFrom (a : Arch) (f : List ℕ) (h : Header) (own : ℕ → Bool) (home : ℕ → Offset) (undef : ℕ) (slot : List ℕ → Found) (i k : ℕ) (x : Fix) : Type 0 where
+-- of a fixup: its section has a home, and it is the type's fixup at home start + address field, with what its symbol comes to
+pub record FixFrom (a : Arch) (f : List ℕ) (h : Header) (home : ℕ → Offset) (target : ℕ → Target) (i k : ℕ) (x : Fix) : Type 0 where
   pub start : RVA
   pub homed : home i ≡ At start
-  pub known : relocationSymbol f h i k < h .symbols
-  pub mine : own (relocationSymbol f h i k) ≡ true
-  pub resolved : Resolved (targetOf f h home undef slot (relocationSymbol f h i k)) (typeOf a (relocationType f h i k)) (rva (start .0 + relocationAddress f h i k)) x
+  pub resolved : Resolved (target (relocationSymbol f h i k)) (typeOf a (relocationType f h i k)) (rva (start .0 + relocationAddress f h i k)) x
 
-module _ (a : Arch) (f : List ℕ) (h : Header) (own : ℕ → Bool) (home : ℕ → Offset) (undef : ℕ) (slot : List ℕ → Found) (i k : ℕ) (x : Fix) where
-  from-home : (o : Offset) → home i ≡ o → ofHome o (atHome a f h own home undef slot i k) ≡ Fixup x → FixFrom a f h own home undef slot i k x
-  unfolding ofHome atHome
+module _ (a : Arch) (f : List ℕ) (h : Header) (home : ℕ → Offset) (target : ℕ → Target) (i k : ℕ) (x : Fix) where
+  from-home : (o : Offset) → home i ≡ o → byHome a target o (relocation f h i k) ≡ Fixup x → FixFrom a f h home target i k x
+  unfolding byHome relocationIn
   from-home (At start) q e =
-      let t = typeOf a (relocationType f h i k) in
-      let r =
-      symbol-fix f h own home undef slot (relocationSymbol f h i k) t (rva (start .0 + relocationAddress f h i k)) x (has-bits a (relocationType f h i k)) e in
-      record { start = start; homed = q; known = r .known; mine = r .mine; resolved = r .resolved }
+      let r = resolved-fix (target (relocationSymbol f h i k)) (typeOf a (relocationType f h i k)) (rva (start .0 + relocationAddress f h i k)) x (has-bits a (relocationType f h i k)) e in
+      record { start = start; homed = q; resolved = r }
   from-home None q e = absurd (let w : _≡_ {A = ℕ} 0 1 = cc in omega arith)
 
-  pub fix-from : outcome a f h own home undef slot i k ≡ Fixup x → FixFrom a f h own home undef slot i k x
+  pub fix-from : outcome a f h home target i k ≡ Fixup x → FixFrom a f h home target i k x
   unfolding outcome
   fix-from e = from-home (home i) refl e
 
@@ -172,14 +144,8 @@ resolved-not-passed (Slot o) t place = kind-not-passed (t .kind) (fixOf t place 
 resolved-not-passed (Missing k) t place = refl
 resolved-not-passed target.Refused t place = refl
 
-module _ (a : Arch) (f : List ℕ) (h : Header) (own : ℕ → Bool) (home : ℕ → Offset) (undef : ℕ) (slot : List ℕ → Found) where
-  symbol-not-passed : (j : ℕ) (t : RelocationType) (place : RVA) → isPassed (bySymbol f h own home undef slot j t place) ≡ false
-  unfolding bySymbol
-  symbol-not-passed j t place =
-      pick-either (λ y. isPassed y ≡ false) (leb (h .symbols) j) (Skipped NoSymbol) _ (λ e. refl)
-      (pick-either (λ y. isPassed y ≡ false) (own j) _ Refused (λ e. resolved-not-passed (targetOf f h home undef slot j) t place) refl)
-
-  pub homed-not-passed : (i k : ℕ) (start : RVA) → home i ≡ At start → isPassed (outcome a f h own home undef slot i k) ≡ false
-  unfolding outcome ofHome atHome
-  homed-not-passed i k start e =
-      rw e (symbol-not-passed (relocationSymbol f h i k) (typeOf a (relocationType f h i k)) (rva (start .0 + relocationAddress f h i k)))
+pub homed-not-passed : (a : Arch) (f : List ℕ) (h : Header) (home : ℕ → Offset) (target : ℕ → Target) (i k : ℕ) (start : RVA) → home i ≡ At start
+    → isPassed (outcome a f h home target i k) ≡ false
+unfolding outcome byHome relocationIn
+homed-not-passed a f h home target i k start e =
+    rw e (resolved-not-passed (target (relocationSymbol f h i k)) (typeOf a (relocationType f h i k)) (rva (start .0 + relocationAddress f h i k)))

@@ -4,7 +4,7 @@ use mathlib.Core.List.{List}
 use mathlib.Core.Logic.{⊎-elim}
 use Prim.Native.Nat.{ℕ, zero, suc, _+_, _≤_, _<_}
 use native.Mathlib.Omega.{arith}
-use borrow.Author.Tests.{ltb-true}
+use lib.Dec.{leb}
 use Rattle.util.specs.Pick.{pick-either}
 use Rattle.limits.specs.Limits.{MAX-EXTERNS}
 use Rattle.arch.specs.Page.{PAGE-SIZE}
@@ -12,11 +12,7 @@ use Rattle.arch.specs.declared.RVA.{RVA}
 use Rattle.arch.specs.declared.Offset.{Offset}
 use Rattle.arch.specs.declared.Offset.the-variants.{At, None}
 use Rattle.object.specs.declared.Header.{Header}
-use Rattle.kinds.specs.declared.SymbolKind.{SymbolKind}
-use Rattle.kinds.specs.declared.SymbolKind.the-variants as kinds
-use Rattle.kinds.specs.declared.Place.{Place}
-use Rattle.kinds.specs.declared.Place.the-variants.{In, Undefined, Common, Absolute, Nowhere, Other}
-use Rattle.object.specs.Symbol.{kind, symbolPlace}
+use Rattle.object.specs.Symbol.{primary}
 use Rattle.names.specs.Bytes.{sameBytes, UNDEF}
 use Rattle.names.specs.Name.{symbolText}
 use Rattle.layout.specs.Layout.{undefStart}
@@ -24,10 +20,13 @@ use Rattle.homes.specs.Home.{loadedNamed, namedRecord, homeStart, byNumber}
 use Rattle.homes.specs.HomeLaws.{start-most}
 use Rattle.externs.specs.declared.Found.{Found}
 use Rattle.externs.specs.declared.Found.the-variants.{Index, Nothing}
-use Rattle.targets.specs.declared.Skip.the-variants.{NoHome, NoSlot}
+use Rattle.rules.specs.declared.Rule.{Rule}
+use Rattle.rules.specs.declared.Rule.the-variants as rules
+use Rattle.codes.specs.Code.{symbolRule}
+use Rattle.targets.specs.declared.Skip.the-variants.{NoSymbol, NoHome, NoSlot}
 use Rattle.targets.specs.declared.Target.{Target}
 use Rattle.targets.specs.declared.Target.the-variants.{Home, Named, Slot, Missing, Refused}
-use Rattle.targets.specs.Target.{homeTarget, slotTarget, namedTarget, labelTarget, slotFor, namedFor, dataTarget, sectionTarget, targetBy, targetOf}
+use Rattle.targets.specs.Target.{homeTarget, slotTarget, namedTarget, slotFor, namedFor, ruleTarget, targetOf}
 use Rattle.fixups.specs.OutcomeLaws.{Reaches}
 
 -- the offset of a target, 0 where it has none
@@ -60,70 +59,49 @@ module _ (u : ℕ) where
   near-number home most zero = near-none (Missing NoHome) refl
   near-number home most (suc i) = near-home (home i) (most i)
 
-  near-slot : (s : Found) → Near (slotTarget u s)
+  near-slot : (s : Found) → ((e : ℕ) → s ≡ Index e → e < MAX-EXTERNS) → Near (slotTarget u s)
   unfolding slotTarget
-  near-slot (Index e) = pick-either Near _ _ _ (λ t. let l = ltb-true e MAX-EXTERNS t in record { near = omega arith }) (near-none (Missing NoSlot) refl)
-  near-slot Nothing = near-none (Missing NoSlot) refl
+  near-slot (Index e) few = let l = few e refl in record { near = omega arith }
+  near-slot Nothing few = near-none (Missing NoSlot) refl
 
   near-named : (x : Offset) (other : Target) → ((o : RVA) → x ≡ At o → o .0 ≤ u) → Near other → Near (namedTarget x other)
   unfolding namedTarget
   near-named (At o) other most n = let c = most o refl in record { near = omega arith }
   near-named None other most n = n
 
--- ---- a symbol's target
-module _ (f : List ℕ) (h : Header) (home : ℕ → Offset) (slot : List ℕ → Found) (most : (i : ℕ) (o : RVA) → home i ≡ At o → o .0 ≤ undefStart f h) (j : ℕ) where
+-- ---- a symbol's target, where no slot is past UNDEF's page
+module _ (f : List ℕ) (h : Header) (home : ℕ → Offset) (slot : List ℕ → Found) (most : (i : ℕ) (o : RVA) → home i ≡ At o → o .0 ≤ undefStart f h)
+    (few : (name : List ℕ) (e : ℕ) → slot name ≡ Index e → e < MAX-EXTERNS) (j : ℕ) where
   abbrev u : ℕ
   u = undefStart f h
 
-  slot-for : Near u (slotFor f h u slot j)
-  slot-for = near-slot u (slot (symbolText f h j))
+  slot-for : Near u (slotFor f h home u slot j)
+  slot-for = near-slot u (slot (symbolText f h j)) (few (symbolText f h j))
 
-  named-for : Near u (namedFor f h u slot j)
+  named-for : Near u (namedFor f h home u slot j)
   named-for =
-      near-named u (homeStart f h (namedRecord f h (symbolText f h j))) (slotFor f h u slot j)
+      near-named u (homeStart f h (namedRecord f h (symbolText f h j))) (slotFor f h home u slot j)
       (start-most f h (loadedNamed f h (symbolText f h j)) (sameBytes (symbolText f h j) UNDEF)) slot-for
 
   none : Near u Refused
   none = near-none u Refused refl
 
-  of-data : (p : Place) → Near u (dataTarget f h home u slot j p)
-  unfolding dataTarget
-  of-data (In n) = near-number u home most n
-  of-data Undefined = slot-for
-  of-data Common = slot-for
-  of-data Other = slot-for
-  of-data Absolute = none
-  of-data Nowhere = none
+  by-rule : (r : Rule) → Near u (ruleTarget f h home u slot r j)
+  unfolding ruleTarget
+  by-rule (rules.Section n) = near-number u home most n
+  by-rule rules.Extern = slot-for
+  by-rule rules.Slot = slot-for
+  by-rule rules.Name = named-for
+  by-rule rules.Refused = none
 
-  of-section : (p : Place) → Near u (sectionTarget f h home u slot j p)
-  unfolding sectionTarget
-  of-section (In n) = near-number u home most n
-  of-section Undefined = named-for
-  of-section Common = named-for
-  of-section Other = none
-  of-section Absolute = none
-  of-section Nowhere = none
-
-  of-label : (p : Place) → Near u (labelTarget home p)
-  unfolding labelTarget
-  of-label (In n) = near-number u home most n
-  of-label Undefined = none
-  of-label Common = none
-  of-label Other = none
-  of-label Absolute = none
-  of-label Nowhere = none
-
-  by-kind : (k : SymbolKind) (p : Place) → Near u (targetBy f h home u slot j k p)
-  unfolding targetBy
-  by-kind kinds.Data p = of-data p
-  by-kind kinds.Text p = of-data p
-  by-kind kinds.Section p = of-section p
-  by-kind kinds.Label p = of-label p
-  by-kind kinds.Unknown p = slot-for
-  by-kind kinds.File p = none
+  by-record : Near u (targetOf f h home u slot j)
+  unfolding targetOf
+  by-record =
+      pick-either (Near u) (leb (h .symbols) j) (Missing NoSymbol) _ (λ e. near-none u (Missing NoSymbol) refl)
+      (pick-either (Near u) (primary f h j) _ Refused (λ e. by-rule (symbolRule f h j)) none)
 
   pub target-near : (o : RVA) → Reaches (targetOf f h home (undefStart f h) slot j) o → o .0 < undefStart f h + PAGE-SIZE
   target-near o r =
       let e = offset-is (targetOf f h home u slot j) o r in
-      let n = (by-kind (kind f h j) (symbolPlace f h j)) .near in
+      let n = by-record .near in
       rw e at n

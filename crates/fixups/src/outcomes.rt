@@ -2,20 +2,21 @@
 use crate::Fix;
 use crate::Outcome;
 use arch::Arch;
-use arch::Offset;
 use arch::RVA;
 use arch::VA;
 use kinds::RelocationKind;
 use kinds::RelocationType;
-use object::Header;
+use object::Records;
+use object::Relocation;
 use targets::Skip;
 use targets::Target;
 ghost use mathlib.Core.Path.{_≡_};
-ghost use Prim.Native.Nat.{_<_, _^_};
-ghost use Rattle.externs.specs.Bisect.{bisect};
-ghost use Rattle.object.specs.Symbol.{isOwn};
-ghost use Rattle.homes.specs.Home.{homeIn};
-ghost use Rattle.fixups.specs.Outcome.{byKind, fixAt, resolved, bySymbol, atHome, outcome};
+ghost use Rattle.arch.specs.declared.Offset.the-variants.{At};
+ghost use Rattle.arch.specs.Address.{rva};
+ghost use Rattle.object.specs.Relocation.{relocationIn, recordAt};
+ghost use Rattle.homes.specs.Home.{wordHome};
+ghost use Rattle.targets.specs.Table.{targetIn};
+ghost use Rattle.fixups.specs.Outcome.{byKind, fixAt, resolved, byHome};
 ghost use Rattle.fixups.specs.Value.{isRelative, valueOf};
 
 fn by_kind(kind: RelocationKind, x: Fix) -> Outcome
@@ -57,70 +58,54 @@ fn resolved(target: Target, t: RelocationType, place: RVA) -> Outcome
     }
 }
 
-// By the number of the relocation's symbol.
-fn by_symbol(
-    f: &[u8],
-    h: Header,
-    own: &[u8],
-    homes: &[u32],
-    undef: u32,
-    slots: &[u32],
-    j: u32,
-    t: RelocationType,
-    place: RVA,
-) -> Outcome
-    ensures { λ r. ⌜ r ≡ bySymbol (now (f .entry)) h (isOwn (now (own .entry))) (homeIn (now (homes .entry))) undef (bisect (now (f .entry)) h (now (slots .entry))) j t place ⌝ }
-{
-    let none = h.symbols <= j;
-    if none {
-        return Outcome::Skipped(Skip::NoSymbol);
-    }
-    if object::is_own(own, j) {
-        resolved(targets::target_of(f, h, homes, undef, slots, j), t, place)
-    } else {
-        Outcome::Refused
-    }
-}
-
-// The same, in a section whose home starts at `start`.
+// A record of a section whose home starts at `start`.
 fn at_home(
     arch: Arch,
-    f: &[u8],
-    h: Header,
-    own: &[u8],
     homes: &[u32],
+    starts: &[u32],
     undef: u32,
-    slots: &[u32],
-    i: u32,
-    k: u32,
-    start: RVA,
+    codes: &[u16],
+    start: u32,
+    r: Relocation,
 ) -> Outcome
-    requires { ⌜ start .0 < 2 ^ 32 ⌝ }
-    ensures { λ r. ⌜ r ≡ atHome arch (now (f .entry)) h (isOwn (now (own .entry))) (homeIn (now (homes .entry))) undef (bisect (now (f .entry)) h (now (slots .entry))) i k start ⌝ }
+    ensures { λ x. ⌜ x ≡ byHome arch (targetIn (now (homes .entry)) (now (starts .entry)) undef (now (codes .entry))) (At (rva start)) r ⌝ }
 {
-    let place = RVA(start.0 + object::relocation_address(f, h, i, k) as u64);
-    let t = kinds::type_of(arch, object::relocation_type(f, h, i, k));
-    let j = object::relocation_symbol(f, h, i, k);
-    by_symbol(f, h, own, homes, undef, slots, j, t, place)
+    let place = RVA(start as u64 + r.address as u64);
+    let t = kinds::type_of(arch, r.typ);
+    resolved(
+        targets::target_in(homes, starts, undef, codes, r.symbol),
+        t,
+        place,
+    )
 }
 
-// What becomes of relocation k of section i: `own` marks the symbols' own records, `homes` has the sections' homes, `slots` the extern names.
+// What becomes of relocation k of a section: `records` says where its records are, `word` is what is kept of its home; `homes`, `starts` and
+// `codes` have what is kept of the sections and the symbols.
 pub fn outcome_of(
     arch: Arch,
     f: &[u8],
-    h: Header,
-    own: &[u8],
+    records: Records,
+    word: u32,
     homes: &[u32],
+    starts: &[u32],
     undef: u32,
-    slots: &[u32],
-    i: u32,
+    codes: &[u16],
     k: u32,
 ) -> Outcome
-    ensures { λ r. ⌜ r ≡ outcome arch (now (f .entry)) h (isOwn (now (own .entry))) (homeIn (now (homes .entry))) undef (bisect (now (f .entry)) h (now (slots .entry))) i k ⌝ }
+    ensures { λ r. ⌜ r ≡ byHome arch (targetIn (now (homes .entry)) (now (starts .entry)) undef (now (codes .entry))) (wordHome word) (relocationIn (now (f .entry)) (recordAt records k)) ⌝ }
 {
-    match homes::home_in(homes, i) {
-        Offset::At(start) => at_home(arch, f, h, own, homes, undef, slots, i, k, start),
-        Offset::None => Outcome::Passed,
+    if word == 0 {
+        Outcome::Passed
+    } else {
+        at_home(
+            arch,
+            homes,
+            starts,
+            undef,
+            codes,
+            word - 1,
+            object::read_relocation(f, records, k),
+        )
     }
 }
 

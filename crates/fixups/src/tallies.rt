@@ -9,9 +9,8 @@ use object::Header;
 ghost use mathlib.Core.Path.{_≡_};
 ghost use Prim.Native.Nat.{_+_, _*_, _^_, _<_};
 ghost use Rattle.object.specs.Section.{relocationCount};
-ghost use Rattle.object.specs.Symbol.{isOwn};
 ghost use Rattle.homes.specs.Home.{homeIn};
-ghost use Rattle.externs.specs.Bisect.{bisect};
+ghost use Rattle.targets.specs.Table.{targetIn};
 ghost use Rattle.fixups.specs.declared.Outcome.the-variants.{Fixup};
 ghost use Rattle.fixups.specs.Outcome.{outcome};
 ghost use Rattle.fixups.specs.Tally.{isMapped, tallyOf};
@@ -89,26 +88,25 @@ fn with_section(
     arch: Arch,
     f: &[u8],
     h: Header,
-    own: &[u8],
     homes: &[u32],
+    starts: &[u32],
     undef: u32,
-    slots: &[u32],
+    codes: &[u16],
     pages: u32,
     t: Tally,
     i: u32,
 ) -> Tally
     requires { ⌜ (i < 2 ^ 16) × AtMost t (2 ^ 32 * i) ⌝ }
-    ensures { λ r. ⌜ Counted (rowTo pages (outcome arch (now (f .entry)) h (isOwn (now (own .entry))) (homeIn (now (homes .entry))) undef (bisect (now (f .entry)) h (now (slots .entry)))) i t (relocationCount (now (f .entry)) h i)) i r ⌝ }
+    ensures { λ r. ⌜ Counted (rowTo pages (outcome arch (now (f .entry)) h (homeIn (now (homes .entry))) (targetIn (now (homes .entry)) (now (starts .entry)) undef (now (codes .entry)))) i t (relocationCount (now (f .entry)) h i)) i r ⌝ }
 {
-    let m = object::relocation_count(f, h, i);
+    let records = object::records_of(f, h, i);
+    let word = le::word_at(homes, i as usize);
+    let m = records.count;
     let mut sum = t;
     let mut k: u32 = 0;
     while k < m {
-        sum = with_outcome(
-            pages,
-            sum,
-            outcomes::outcome_of(arch, f, h, own, homes, undef, slots, i, k),
-        );
+        let o = outcomes::outcome_of(arch, f, records, word, homes, starts, undef, codes, k);
+        sum = with_outcome(pages, sum, o);
         k += 1;
     }
     sum
@@ -119,13 +117,13 @@ pub fn tally_of(
     arch: Arch,
     f: &[u8],
     h: Header,
-    own: &[u8],
     homes: &[u32],
+    starts: &[u32],
     undef: u32,
-    slots: &[u32],
+    codes: &[u16],
     pages: u32,
 ) -> Tally
-    ensures { λ r. ⌜ r ≡ tallyOf pages (outcome arch (now (f .entry)) h (isOwn (now (own .entry))) (homeIn (now (homes .entry))) undef (bisect (now (f .entry)) h (now (slots .entry)))) (relocationCount (now (f .entry)) h) (h .sections) ⌝ }
+    ensures { λ r. ⌜ r ≡ tallyOf pages (outcome arch (now (f .entry)) h (homeIn (now (homes .entry))) (targetIn (now (homes .entry)) (now (starts .entry)) undef (now (codes .entry)))) (relocationCount (now (f .entry)) h) (h .sections) ⌝ }
 {
     let n = h.sections as u32;
     let mut sum = Tally {
@@ -137,7 +135,7 @@ pub fn tally_of(
     };
     let mut i: u32 = 0;
     while i < n {
-        sum = with_section(arch, f, h, own, homes, undef, slots, pages, sum, i);
+        sum = with_section(arch, f, h, homes, starts, undef, codes, pages, sum, i);
         i += 1;
     }
     sum

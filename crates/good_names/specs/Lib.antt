@@ -1,2 +1,1 @@
 pub mod GoodNames
-pub mod Stops

@@ -16,7 +16,9 @@ use Rattle.arch.specs.declared.Offset.the-variants.{At, None}
 use Rattle.arch.specs.Address.{rva}
 use Rattle.object.specs.declared.Header.{Header}
 use Rattle.object.specs.Section.{loaded, fileStart}
-use Rattle.object.specs.Symbol.{symbolPlace, listedValue, isOwn}
+use Rattle.object.specs.declared.Symbol.{Symbol}
+use Rattle.object.specs.Symbol.{placeOf, listedOf}
+use Rattle.object.specs.SymbolLaws.{left-none, left-past}
 use Rattle.kinds.specs.declared.Place.{Place}
 use Rattle.kinds.specs.declared.Place.the-variants.{In, Undefined, Common, Absolute, Nowhere, Other}
 use Rattle.names.specs.Bytes.{sameBytes}
@@ -25,7 +27,7 @@ use Rattle.layout.specs.Layout.{startAt, undefStart, recordOf}
 use Rattle.homes.specs.declared.Home.{Home}
 use Rattle.homes.specs.declared.Home.the-variants as home
 use Rattle.homes.specs.Home.{firstIn, isHome, loadedNamed, homeAt, homeOf, homeStart, homeRecord, byNumber, homeWord, wordHome, homesTo, homeIn, homeRecords, Low}
-use Rattle.homes.specs.Listed.{ofPlace, placeHome, isSome, listed, offsetFrom, listedOffset}
+use Rattle.homes.specs.Listed.{ofPlace, placeHome, isSome, offsetFrom, listed-is}
 
 -- ---- the tests
 module _ (f : List ℕ) (h : Header) (j : ℕ) where
@@ -200,13 +202,12 @@ some-at x o e = rw e
 pub some-none : (x : Offset) → x ≡ None → false ≡ isSome x
 some-none x e = rw e
 
-module _ (f : List ℕ) (h : Header) (home : ℕ → Offset) (j : ℕ) where
-  pub listed-is : (own : ℕ → Bool) {r a b : Bool} (x : Offset) (p : Place) → r ≡ (a && b) → a ≡ own j → b ≡ isSome x → x ≡ placeHome home p → p ≡ symbolPlace f h j → r ≡ listed f h own home j
-  unfolding listed
-  listed-is own x p e a b c d = rw (← d, ← c, ← a, ← b) e
+module _ (home : ℕ → Offset) (s : Symbol) (x : Offset) (p : Place) (at-home : x ≡ placeHome home p) (at-place : p ≡ placeOf s) where
+  pub both-is : (a : Bool) {r b : Bool} → r ≡ (a && b) → b ≡ isSome x → r ≡ (a && isSome (placeHome home (placeOf s)))
+  both-is a e q = rw (← at-place, ← at-home, ← q) e
 
-  pub offset-is : {r : RVA} (x : Offset) (p : Place) (v : ℕ) → r ≡ rva (offsetFrom x v) → x ≡ placeHome home p → p ≡ symbolPlace f h j → v ≡ listedValue f h j → r ≡ rva (listedOffset f h home j)
-  offset-is x p v e a b c = rw (← b, ← a, ← c) e
+  pub offset-is : {r : RVA} (v : ℕ) → r ≡ rva (offsetFrom x v) → v ≡ listedOf s → r ≡ rva (offsetFrom (placeHome home (placeOf s)) (listedOf s))
+  offset-is v e c = rw (← at-place, ← at-home, ← c) e
 
 module _ (x : Offset) (v : ℕ) where
   pub from-at : (o : RVA) → x ≡ At o → rva (o .0 + v) ≡ rva (offsetFrom x v)
@@ -227,8 +228,8 @@ module _ (x : Offset) (v : ℕ) where
   pub low-sum : (o : RVA) → Low x → x ≡ At o → v < 2 ^ 32 → o .0 + v < 2 ^ 33
   low-sum o k e q = let z = low-is o k e in omega arith
 
-pub ruleset listings = (some-at, some-none, listed-is, offset-is, from-at, from-none)
+pub ruleset listings = (some-at, some-none, from-at, from-none)
 
 pub ruleset lows = (low-fits, low-sum)
 
-pub ruleset total-loop = (count-none, count-yes, count-no, count-end)
+pub ruleset total-loop = (count-none, count-yes, count-no, count-end, left-none, left-past, listed-is)

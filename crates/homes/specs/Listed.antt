@@ -1,15 +1,18 @@
 -- Which symbols are listed, and where (01, "Layout, slots and fixups"): those with a positive section number whose section has a home, in file
--- order, at the home's start plus their value. `own` says which records are symbols' own, `home` where a section's home starts.
+-- order, at the home's start plus their value. `home` says where a section's home starts.
+use mathlib.Core.Path.{_≡_}
 use mathlib.Core.Bool.{Bool, true, false, _&&_}
 use mathlib.Core.List.{List}
 use Prim.Native.Nat.{ℕ, _+_}
+use lib.Dec.{eqb}
 use Rattle.util.specs.Prefix.{countTo}
 use Rattle.arch.specs.declared.Offset.{Offset}
 use Rattle.arch.specs.declared.Offset.the-variants.{At, None}
 use Rattle.object.specs.declared.Header.{Header}
+use Rattle.object.specs.declared.Symbol.{Symbol}
 use Rattle.kinds.specs.declared.Place.{Place}
 use Rattle.kinds.specs.declared.Place.the-variants.{In, Undefined, Common, Absolute, Nowhere, Other}
-use Rattle.object.specs.Symbol.{symbolPlace, listedValue}
+use Rattle.object.specs.Symbol.{symbolOf, placeOf, symbolPlace, listedValue, auxiliariesLeft, primary}
 use Rattle.homes.specs.Home.{byNumber}
 
 -- what is found for the section of a place: `none` outside the sections
@@ -29,9 +32,9 @@ abbrev pub isSome : Offset → Bool
 isSome (At o) = true
 isSome None = false
 
--- symbol j is listed
-unfoldable pub listed : List ℕ → Header → (ℕ → Bool) → (ℕ → Offset) → ℕ → Bool
-listed f h own home j = own j && isSome (placeHome home (symbolPlace f h j))
+-- record j is a listed symbol's: its own, and its place has a home
+unfoldable pub listed : List ℕ → Header → (ℕ → Offset) → ℕ → Bool
+listed f h home j = primary f h j && isSome (placeHome home (symbolPlace f h j))
 
 -- where a listed symbol is: behind its home's start, as far as its value says
 unfoldable pub offsetFrom : Offset → ℕ → ℕ
@@ -42,5 +45,11 @@ abbrev pub listedOffset : List ℕ → Header → (ℕ → Offset) → ℕ → �
 listedOffset f h home j = offsetFrom (placeHome home (symbolPlace f h j)) (listedValue f h j)
 
 -- how many there are
-abbrev pub listedTotal : List ℕ → Header → (ℕ → Bool) → (ℕ → Offset) → ℕ
-listedTotal f h own home = countTo (listed f h own home) (h .symbols)
+abbrev pub listedTotal : List ℕ → Header → (ℕ → Offset) → ℕ
+listedTotal f h home = countTo (listed f h home) (h .symbols)
+
+-- ---- as a loop tells it that counts how many auxiliary records are left
+pub listed-is : (f : List ℕ) (h : Header) (home : ℕ → Offset) (j left : ℕ) (s : Symbol) {r : Bool} → r ≡ (eqb left 0 && isSome (placeHome home (placeOf s))) → left ≡ auxiliariesLeft f h j → s ≡ symbolOf f h j
+    → r ≡ listed f h home j
+unfolding listed primary
+listed-is f h home j left s e a b = rw (b, a) at e

@@ -4,13 +4,16 @@ use arch::Offset;
 use arch::RVA;
 use kinds::Place;
 use object::Header;
+use object::Symbol;
 ghost use mathlib.Core.Path.{_≡_};
+ghost use mathlib.Core.Bool.{_&&_};
 ghost use Prim.Native.Nat.{_<_, _^_};
+ghost use lib.Dec.{eqb};
 ghost use lib.ListN.{getD};
 ghost use Rattle.arch.specs.Address.{rva};
-ghost use Rattle.object.specs.Symbol.{isOwn};
+ghost use Rattle.object.specs.Symbol.{placeOf, listedOf};
 ghost use Rattle.homes.specs.Home.{byNumber, homeIn, Low};
-ghost use Rattle.homes.specs.Listed.{ofPlace, placeHome, isSome, listed, offsetFrom, listedOffset, listedTotal};
+ghost use Rattle.homes.specs.Listed.{ofPlace, placeHome, isSome, offsetFrom, listedTotal};
 
 // Where the home of a place starts.
 fn place_home(homes: &[u32], p: Place) -> Offset
@@ -60,14 +63,11 @@ fn is_some(o: Offset) -> bool
     }
 }
 
-// Symbol j is listed.
-pub fn is_listed(f: &[u8], h: Header, own: &[u8], homes: &[u32], j: u32) -> bool
-    ensures { λ r. ⌜ r ≡ listed (now (f .entry)) h (isOwn (now (own .entry))) (homeIn (now (homes .entry))) j ⌝ }
+// The record s is a listed symbol's, if `left` auxiliary records stand from it on.
+pub fn is_listed(homes: &[u32], left: u8, s: Symbol) -> bool
+    ensures { λ r. ⌜ r ≡ (eqb left 0 && isSome (placeHome (homeIn (now (homes .entry))) (placeOf s))) ⌝ }
 {
-    util::both(
-        object::is_own(own, j),
-        is_some(place_home(homes, object::symbol_place(f, h, j))),
-    )
+    util::both(left == 0, is_some(place_home(homes, object::place_of(s))))
 }
 
 fn offset_from(home: Offset, value: u32) -> RVA
@@ -81,24 +81,28 @@ fn offset_from(home: Offset, value: u32) -> RVA
     }
 }
 
-// Where symbol j is listed.
-pub fn listed_offset(f: &[u8], h: Header, homes: &[u32], j: u32) -> RVA
-    ensures { λ r. ⌜ r ≡ rva (listedOffset (now (f .entry)) h (homeIn (now (homes .entry))) j) ⌝ }
+// Where the symbol of record s is listed.
+pub fn listed_offset(homes: &[u32], s: Symbol) -> RVA
+    ensures { λ r. ⌜ r ≡ rva (offsetFrom (placeHome (homeIn (now (homes .entry))) (placeOf s)) (listedOf s)) ⌝ }
     ensures { λ r. ⌜ r .0 < 2 ^ 33 ⌝ }
 {
-    let home = place_home(homes, object::symbol_place(f, h, j));
-    offset_from(home, object::listed_value(f, h, j))
+    let home = place_home(homes, object::place_of(s));
+    offset_from(home, object::listed_of(s))
 }
 
 // How many symbols are listed.
-pub fn listed_total(f: &[u8], h: Header, own: &[u8], homes: &[u32]) -> u32
-    ensures { λ r. ⌜ r ≡ listedTotal (now (f .entry)) h (isOwn (now (own .entry))) (homeIn (now (homes .entry))) ⌝ }
+pub fn listed_total(f: &[u8], h: Header, homes: &[u32]) -> u32
+    ensures { λ r. ⌜ r ≡ listedTotal (now (f .entry)) h (homeIn (now (homes .entry))) ⌝ }
 {
     let n = h.symbols;
     let mut count: u32 = 0;
+    let mut left: u8 = 0;
     let mut j: u32 = 0;
     while j < n {
-        if is_listed(f, h, own, homes, j) {
+        let s = object::read_symbol(f, h, j);
+        let found = is_listed(homes, left, s);
+        left = object::left_by(left, s.auxiliaries);
+        if found {
             count += 1;
             j += 1;
         } else {

@@ -1,4 +1,5 @@
 -- Kind and place of a symbol by the numbers of its record (01, "Records"; PE/COFF, "COFF Symbol Table").
+use mathlib.Core.Path.{_≡_, refl}
 use mathlib.Core.Bool.{Bool, _&&_, _||_, not}
 use Prim.Native.Nat.{ℕ, zero, suc, _/_, _%_}
 use lib.IntN.{ℤ, pos, negsuc}
@@ -78,3 +79,16 @@ kindNumber Data = 2
 kindNumber Section = 3
 kindNumber File = 4
 kindNumber Label = 5
+
+-- the kind that a number of the tables has; a number that is no kind's is unknown
+unfoldable pub kindOf : ℕ → SymbolKind
+kindOf n = pick (eqb n 1) Text (pick (eqb n 2) Data (pick (eqb n 3) Section (pick (eqb n 4) File (pick (eqb n 5) Label Unknown))))
+
+pub kind-is : (k : SymbolKind) → kindOf (kindNumber k) ≡ k
+unfolding kindOf pick
+kind-is Unknown = refl
+kind-is Text = refl
+kind-is Data = refl
+kind-is Section = refl
+kind-is File = refl
+kind-is Label = refl

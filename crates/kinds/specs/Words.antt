@@ -3,6 +3,7 @@ use mathlib.Core.Path.{_≡_, refl}
 use mathlib.Core.Bool.{_&&_}
 use mathlib.Core.List.{List, [], _∷_}
 use mathlib.Core.Logic.{⊎-elim}
+use mathlib.Core.Option.{Option, none, some}
 use Prim.Native.Nat.{ℕ, zero, suc}
 use lib.IntN.{ℤ, pos, negsuc}
 use lib.Dec.{eqb}
@@ -90,14 +91,14 @@ placeWord places.Absolute = ABSOLUTE
 placeWord places.Nowhere = NONE
 placeWord places.Other = UNKNOWN
 
--- the section number of a place; those of unknown places are all others, of which -3 is the first
-abbrev pub placeNumber : Place → ℤ
-placeNumber (places.In n) = pos n
-placeNumber places.Undefined = pos 0
-placeNumber places.Common = pos 0
-placeNumber places.Absolute = negsuc 0
-placeNumber places.Nowhere = negsuc 1
-placeNumber places.Other = negsuc 2
+-- the section number that a place comes from; an unknown place comes from many
+abbrev pub placeNumber : Place → Option ℤ
+placeNumber (places.In n) = some (pos n)
+placeNumber places.Undefined = some (pos 0)
+placeNumber places.Common = some (pos 0)
+placeNumber places.Absolute = some (negsuc 0)
+placeNumber places.Nowhere = some (negsuc 1)
+placeNumber places.Other = none
 
 abbrev pub relocationKindWord : RelocationKind → List ℕ
 relocationKindWord relocations.Absolute = ABSOLUTE
@@ -108,7 +109,7 @@ relocationKindWord relocations.NotCarried = NOT-CARRIED
 relocationKindWord relocations.Unknown = UNKNOWN
 
 -- a place that is not unknown says the number it came from
-pub place-number : (z : ℤ) (class value : ℕ) → (placeBy z class value ≡ places.Other → ⊥) → placeNumber (placeBy z class value) ≡ z
+pub place-number : (z : ℤ) (class value : ℕ) → (placeBy z class value ≡ places.Other → ⊥) → placeNumber (placeBy z class value) ≡ some z
 unfolding placeBy zeroPlace pick
 place-number (pos zero) class value n = ⊎-elim (λ t. rw t) (λ t. rw t) (yes-no (eqb class 2 && eqb value 0))
 place-number (pos (suc k)) class value n = refl

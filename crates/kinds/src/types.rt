@@ -83,10 +83,11 @@ fn type_32(t: u16) -> RelocationType
 {
     let i = t as usize;
     if i < X32_ROWS {
+        let row = X32_TYPES[i];
         RelocationType {
-            kind: kind_of(X32_TYPES[i][0]),
-            bits: X32_TYPES[i][1],
-            addend: X32_TYPES[i][2],
+            kind: kind_of(row[0]),
+            bits: row[1],
+            addend: row[2],
         }
     } else {
         RelocationType {
@@ -102,10 +103,11 @@ fn type_64(t: u16) -> RelocationType
 {
     let i = t as usize;
     if i < X64_ROWS {
+        let row = X64_TYPES[i];
         RelocationType {
-            kind: kind_of(X64_TYPES[i][0]),
-            bits: X64_TYPES[i][1],
-            addend: X64_TYPES[i][2],
+            kind: kind_of(row[0]),
+            bits: row[1],
+            addend: row[2],
         }
     } else {
         RelocationType {

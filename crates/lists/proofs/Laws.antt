@@ -1,17 +1,26 @@
 -- The pass over all relocations. Assumes nothing.
 use mathlib.Core.Path.{_≡_, refl, ap, _∙_}
 use mathlib.Core.List.{List, [], _∷_, _++_}
-use Prim.Native.Nat.{ℕ, _+_, _*_, _%_, _^_, _≤_, _<_}
+use Prim.Native.Nat.{ℕ, zero, suc, _+_, _*_, _%_, _^_, _≤_, _<_}
 use native.Mathlib.Omega.{arith}
 use native.Mathlib.Numerals.{add-one}
-use lib.ListN.{length, length-append}
+use lib.ListN.{length, getD, length-append}
 use Rattle.limits.specs.Limits.{FIXUP-BYTES, SKIP-BYTES}
 use Rattle.le.specs.Le.{splice, splice-next, splice-long}
+use Rattle.arch.specs.declared.Arch.{Arch}
+use Rattle.arch.specs.declared.Offset.{Offset}
+use Rattle.object.specs.declared.Header.{Header}
+use Rattle.object.specs.declared.Records.{Records}
+use Rattle.object.specs.Relocation.{relocationIn, recordsOf, recordAt, count-read}
+use Rattle.object.specs.Section.{relocationCount}
+use Rattle.homes.specs.Home.{wordHome, homeIn}
 use Rattle.targets.specs.declared.Skip.{Skip}
+use Rattle.targets.specs.declared.Target.{Target}
 use Rattle.fixups.specs.declared.Fix.{Fix}
 use Rattle.fixups.specs.declared.Outcome.{Outcome}
 use Rattle.fixups.specs.declared.Outcome.the-variants.{Passed, Skipped, Refused, Fixup}
 use Rattle.targets.specs.Target.{skipNumber}
+use Rattle.fixups.specs.Outcome.{byHome, outcome, readOutcome, read-outcome}
 use Rattle.fixups.specs.Value.{valueOf}
 use Rattle.fixups.specs.Lists.{overRecords, overSections}
 use Rattle.lists.specs.declared.Rows.{Rows}
@@ -122,6 +131,44 @@ module _ (base : ℕ) (o : ℕ → ℕ → Outcome) (i : ℕ) (p : Rows) (b c : 
   pub row-room : (k m : ℕ) (F S b′ c′ : List ℕ) (q : Rows) → Step p F S b b′ c c′ q k → p .fixups ≤ 2 ^ 32 * i → p .skips ≤ 2 ^ 32 * i → i < 2 ^ 16 → k < m → m < 2 ^ 32
       → (q .fixups < 2 ^ 50) × (q .skips < 2 ^ 50)
   row-room k m F S b′ c′ q s x y a d e = (omega (arith, s .near .fixes), omega (arith, s .near .skips))
+
+-- ---- a section by what is found once for it
+over-same : {A : Type 0} (out other : ℕ → ℕ → List A) (i : ℕ) → ((k : ℕ) → out i k ≡ other i k) → (n : ℕ) → overRecords out i n ≡ overRecords other i n
+unfolding overRecords
+over-same out other i e zero = refl
+over-same out other i e (suc n) = rw (over-same out other i e n, e n)
+
+module _ (base : ℕ) (o x : ℕ → ℕ → Outcome) (i : ℕ) (e : (k : ℕ) → o i k ≡ x i k) (n : ℕ) where
+  fixes-same : overRecords (fixBytesAt base o) i n ≡ overRecords (fixBytesAt base x) i n
+  unfolding fixBytesAt
+  fixes-same = over-same (fixBytesAt base o) (fixBytesAt base x) i (λ k. ap (fixBytes base) (e k)) n
+
+  skips-same : overRecords (skipBytesAt o) i n ≡ overRecords (skipBytesAt x) i n
+  unfolding skipBytesAt
+  skips-same = over-same (skipBytesAt o) (skipBytesAt x) i (λ k. ap (skipBytes i k) (e k)) n
+
+pub read-again : (a : Arch) (f : List ℕ) (target : ℕ → Target) (rs : Records) (home : Offset) (base i : ℕ) (p : Rows) (b c : List ℕ) (k : ℕ) (q r : Rows) (x : Outcome)
+    (b′ b″ c′ c″ : List ℕ)
+    → Step p (overRecords (fixBytesAt base (readOutcome a f target rs home)) i k) (overRecords (skipBytesAt (readOutcome a f target rs home)) i k) b b′ c c′ q k
+    → x ≡ byHome a target home (relocationIn f (recordAt rs k)) → Step q (fixBytes base x) (skipBytes i k x) b′ b″ c′ c″ r 1
+    → Step p (overRecords (fixBytesAt base (readOutcome a f target rs home)) i (k + 1)) (overRecords (skipBytesAt (readOutcome a f target rs home)) i (k + 1)) b b″ c c″ r (k + 1)
+unfolding readOutcome
+read-again a f target rs home base i p b c k q r x b′ b″ c′ c″ s e t =
+    row-again base (readOutcome a f target rs home) i p b c k q r x b′ b″ c′ c″ s e t
+
+pub read-end : (a : Arch) (f : List ℕ) (h : Header) (homes : List ℕ) (target : ℕ → Target) (rs : Records) (w base i : ℕ) (p : Rows) (b c : List ℕ) (k : ℕ) (q : Rows)
+    (b′ c′ : List ℕ)
+    → Step p (overRecords (fixBytesAt base (readOutcome a f target rs (wordHome w))) i k) (overRecords (skipBytesAt (readOutcome a f target rs (wordHome w))) i k) b b′ c c′ q k
+    → rs ≡ recordsOf f h i → w ≡ getD homes i 0 → k ≤ rs .count → rs .count ≤ k → rs .count < 2 ^ 32
+    → Step p (overRecords (fixBytesAt base (outcome a f h (homeIn homes) target)) i (relocationCount f h i))
+    (overRecords (skipBytesAt (outcome a f h (homeIn homes) target)) i (relocationCount f h i)) b b′ c c′ q (2 ^ 32)
+read-end a f h homes target rs w base i p b c k q b′ c′ s e z m d l =
+    let each = read-outcome a f h homes target i rs w e z in
+    row-end base (outcome a f h (homeIn homes) target) i p b c k (rs .count) (relocationCount f h i) q b′ c′
+    (rw (
+      fixes-same base (readOutcome a f target rs (wordHome w)) (outcome a f h (homeIn homes) target) i each k,
+      skips-same base (readOutcome a f target rs (wordHome w)) (outcome a f h (homeIn homes) target) i each k,
+    ) at s) m d (count-read f h i rs e) l
 
 -- ---- the sections
 abbrev pub none : Rows

@@ -10,10 +10,9 @@ ghost use Prim.Native.Nat.{_*_, _^_, _<_, _≤_};
 ghost use Rattle.object.specs.Section.{relocationCount};
 ghost use Rattle.le.specs.Le.{splice};
 ghost use Rattle.limits.specs.Limits.{FIXUP-BYTES, SKIP-BYTES};
-ghost use Rattle.object.specs.Symbol.{isOwn};
 ghost use Rattle.homes.specs.Home.{homeIn};
-ghost use Rattle.externs.specs.Bisect.{bisect};
 ghost use Rattle.targets.specs.Target.{skipNumber};
+ghost use Rattle.targets.specs.Table.{targetIn};
 ghost use Rattle.fixups.specs.Outcome.{outcome};
 ghost use Rattle.fixups.specs.Lists.{overRecords};
 ghost use Rattle.words.specs.Words.{wordBytes};
@@ -104,10 +103,10 @@ fn write_section(
     arch: Arch,
     f: &[u8],
     h: Header,
-    own: &[u8],
     homes: &[u32],
+    starts: &[u32],
     undef: u32,
-    slots: &[u32],
+    codes: &[u16],
     base: VA,
     i: u32,
     p: Rows,
@@ -117,15 +116,17 @@ fn write_section(
     requires { ⌜ (i < 2 ^ 16) × (p .fixups ≤ 2 ^ 32 * i) × (p .skips ≤ 2 ^ 32 * i) ⌝ }
     ensures { λ r.
         ⌜ Step p
-        (overRecords (fixBytesAt (base .0) (outcome arch (now (f .entry)) h (isOwn (now (own .entry))) (homeIn (now (homes .entry))) undef (bisect (now (f .entry)) h (now (slots .entry))))) i (relocationCount (now (f .entry)) h i))
-        (overRecords (skipBytesAt (outcome arch (now (f .entry)) h (isOwn (now (own .entry))) (homeIn (now (homes .entry))) undef (bisect (now (f .entry)) h (now (slots .entry))))) i (relocationCount (now (f .entry)) h i))
+        (overRecords (fixBytesAt (base .0) (outcome arch (now (f .entry)) h (homeIn (now (homes .entry))) (targetIn (now (homes .entry)) (now (starts .entry)) undef (now (codes .entry))))) i (relocationCount (now (f .entry)) h i))
+        (overRecords (skipBytesAt (outcome arch (now (f .entry)) h (homeIn (now (homes .entry))) (targetIn (now (homes .entry)) (now (starts .entry)) undef (now (codes .entry))))) i (relocationCount (now (f .entry)) h i))
         (now (fixups .entry)) (now (fixups .exit)) (now (skips .entry)) (now (skips .exit)) r (2 ^ 32) ⌝ }
 {
-    let m = object::relocation_count(f, h, i);
+    let records = object::records_of(f, h, i);
+    let word = le::word_at(homes, i as usize);
+    let m = records.count;
     let mut q = p;
     let mut k: u32 = 0;
     while k < m {
-        let o = fixups::outcome_of(arch, f, h, own, homes, undef, slots, i, k);
+        let o = fixups::outcome_of(arch, f, records, word, homes, starts, undef, codes, k);
         q = put_outcome(base, i, k, o, q, fixups, skips);
         k += 1;
     }
@@ -137,18 +138,18 @@ pub fn write_relocations(
     arch: Arch,
     f: &[u8],
     h: Header,
-    own: &[u8],
     homes: &[u32],
+    starts: &[u32],
     undef: u32,
-    slots: &[u32],
+    codes: &[u16],
     base: VA,
     fixups: &mut [u8],
     skips: &mut [u8],
 )
     ensures { λ _.
         ⌜ BothWritten
-        (fixTable (base .0) (outcome arch (now (f .entry)) h (isOwn (now (own .entry))) (homeIn (now (homes .entry))) undef (bisect (now (f .entry)) h (now (slots .entry)))) (relocationCount (now (f .entry)) h) (h .sections))
-        (skipTable (outcome arch (now (f .entry)) h (isOwn (now (own .entry))) (homeIn (now (homes .entry))) undef (bisect (now (f .entry)) h (now (slots .entry)))) (relocationCount (now (f .entry)) h) (h .sections))
+        (fixTable (base .0) (outcome arch (now (f .entry)) h (homeIn (now (homes .entry))) (targetIn (now (homes .entry)) (now (starts .entry)) undef (now (codes .entry)))) (relocationCount (now (f .entry)) h) (h .sections))
+        (skipTable (outcome arch (now (f .entry)) h (homeIn (now (homes .entry))) (targetIn (now (homes .entry)) (now (starts .entry)) undef (now (codes .entry)))) (relocationCount (now (f .entry)) h) (h .sections))
         (now (fixups .entry)) (now (fixups .exit)) (now (skips .entry)) (now (skips .exit)) ⌝ }
 {
     let n = h.sections as u32;
@@ -162,10 +163,10 @@ pub fn write_relocations(
             arch,
             f,
             h,
-            own,
             homes,
+            starts,
             undef,
-            slots,
+            codes,
             base,
             i,
             q,

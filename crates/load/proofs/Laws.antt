@@ -5,26 +5,24 @@ use Rattle.load.specs.declared.Plan.the-variants.{Ready}
 use Rattle.layout.specs.LayoutLaws.{undef-fits}
 use Rattle.arch.specs.Machine.{archOf, archBy}
 use Rattle.arch.specs.Address.{rva}
-use Rattle.util.specs.Prefix.{length-list}
 use lib.Seq.{take-append-seam}
-use mathlib.Core.Path.{_≡_, refl, sym, ap, _∙_, subst, fun-ext}
+use mathlib.Core.Path.{_≡_, refl, sym, ap, _∙_, subst}
 use mathlib.Core.Bool.{Bool, true, false, _&&_, not}
 use mathlib.Core.List.{List, [], _∷_, _++_}
 use Prim.Native.Nat.{ℕ, zero, suc, _+_, _-_, _*_, _/_, _≤_, _<_, _%_, _^_}
 use native.Mathlib.Omega.{arith}
-use native.Mathlib.Nat.{mul-comm, suc-mul, mul-le-mul-left, div-mul-le-self, lt-div-mul-add, zero-add}
+use native.Mathlib.Nat.{mul-comm, suc-mul, mul-le-mul-left, div-mul-le-self, lt-div-mul-add}
 use mathlib.Core.Logic.{⊎-elim}
 use lib.Dec.{eqb, leb}
-use lib.ListN.{length, replicate, length-take, getD, length-replicate, List·getD-eq-default}
+use lib.ListN.{length, replicate, length-take, length-replicate}
 use borrow.Author.Tests.{le-leb, lt-leb, ne-eqb, leb-true, not-true, not-false}
 use Rattle.util.specs.Pick.{pick, le-or-lt, leb-same}
 use Rattle.survey.specs.declared.answer.Counts.{Counts}
 use Rattle.load.specs.declared.Lengths.{Lengths}
-use Rattle.le.specs.Le.{splice, part, part-front, filled, splice-in, splice-above}
+use Rattle.le.specs.Le.{splice, part, part-front, filled}
 use Rattle.object.specs.declared.Header.{Header}
 use Rattle.layout.specs.Layout.{startsTo, mappedPages, undefStart}
-use Rattle.homes.specs.Home.{homeRecords, homesTo, homeIn, sectionHome, homeWord, homeStart, homeOf}
-use Rattle.homes.specs.HomeLaws.{homes-kept}
+use Rattle.homes.specs.Home.{homeRecords, homesTo, homeIn, sectionHome}
 use Rattle.tables.specs.Sections.{sectionTable}
 use Rattle.symbol_table.specs.Symbols.{symbolTable}
 use Rattle.tables.specs.Externs.{externTable}
@@ -37,7 +35,6 @@ use Rattle.arch.specs.declared.Arch.{Arch}
 use Rattle.arch.specs.declared.RVA.{RVA}
 use Rattle.arch.specs.declared.Offset.{Offset}
 use Rattle.object.specs.Section.{relocationCount}
-use Rattle.externs.specs.Bisect.{bisect}
 use Rattle.fixups.specs.Outcome.{outcome}
 use Rattle.lists.specs.Relocations.{fixTable, skipTable, BothWritten}
 use Rattle.refusal.specs.Refusal.{PAGES, EXTERNS, TARGET, PLACE, BASE, STORAGE}
@@ -47,21 +44,23 @@ use Rattle.survey.specs.declared.answer.Survey.the-variants.{Accepted}
 use Rattle.load.specs.declared.answer.Load.{Load}
 use Rattle.load.specs.declared.answer.Load.the-variants.{Loaded, Refused}
 use Rattle.survey.specs.Survey.{Check, check, firstFailed, recordChecks, externChecks, targetChecks, checks, counts, tally, tallyBy, answerBy}
-use Rattle.survey.specs.Surveying.{Fits, plannedBy}
+use Rattle.survey.specs.Surveying.{Fits, plannedBy, namesIn, homeWords, startWords, codeWords}
+use Rattle.survey.specs.TableLaws.{homes-whole, starts-front, names-whole, targets-whole}
 use Rattle.survey.specs.SurveyLaws.{check-holds, checks-hold, failed-first, Ordered, ordered, records-rest, fits-is}
 use Rattle.load.specs.LoadLaws.{load-says-refused}
 use Rattle.checks.specs.Checks.{pagesOk, baseOk}
 use Rattle.object.specs.Format.{headerOf}
-use Rattle.object.specs.Symbol.{primaries, isOwn, isSymbol, primary}
-use Rattle.object.specs.SymbolLaws.{own-kept}
 use Rattle.externs.specs.declared.Names.{Names}
 use Rattle.externs.specs.declared.Names.the-variants.{TooMany, Count}
-use Rattle.externs.specs.Externs.{externs, externsBy, namesOf, slotWords, Holds}
+use Rattle.externs.specs.Externs.{externs, namesOf, slotWords, Holds}
+use Rattle.externs.specs.Slotted.{slotted, codesAfter}
+use Rattle.codes.specs.Code.{codesTo}
+use Rattle.targets.specs.declared.Target.{Target}
+use Rattle.targets.specs.Target.{targets}
+use Rattle.targets.specs.Table.{targetIn}
 use Rattle.externs.specs.ExternLaws.{kept-holds, over-length, count-room, count-list}
-use Rattle.externs.specs.Slot.{slotOf}
-use Rattle.externs.specs.BisectLaws.{bisect-externs}
 use Rattle.fixups.specs.declared.Tally.{Tally}
-use Rattle.load.specs.Loading.{LayoutIs, NamesAre, Limits, storage, roomCheck, planBy, withRoom, plannedCounts, PlannedBy, Blank, planChecks, Found, Plans}
+use Rattle.load.specs.Loading.{LayoutIs, NamesAre, Known, storage, roomCheck, planBy, withRoom, plannedCounts, latePlan, PlannedIn, Blank, planChecks, Found, Plans}
 
 -- ---- 13
 -- a count fits the whole records of a length where its bytes fit the length
@@ -106,38 +105,34 @@ module _ (f : List ℕ) (h : Header) (base : ℕ) (starts : List ℕ) (undef pag
       → LayoutIs f h base starts undef pages n s s′ i i′ m m′
   laid-is x y z = record { sections = x; image = y; marks = z }
 
-module _ (f : List ℕ) (h : Header) (base : ℕ) (undef pages n : ℕ) (s s′ i i′ m m′ a w : List ℕ) where
-  pub starts-are : a ≡ splice (replicate MAX-SECTIONS 0) 0 (startsTo f h (h .sections)) → h .sections ≤ MAX-SECTIONS → w ≡ part a 0 (h .sections) → LayoutIs f h base w undef pages n s s′ i i′ m m′
-      → LayoutIs f h base (startsTo f h (h .sections)) undef pages n s s′ i i′ m m′
-  starts-are e k q x =
-      let g : w ≡ startsTo f h (h .sections) = filled _ a w MAX-SECTIONS (h .sections) e k q in
-      subst (λ (l : List ℕ). LayoutIs f h base l undef pages n s s′ i i′ m m′) g x
-
-module _ (f : List ℕ) (h : Header) (base : ℕ) (own : ℕ → Bool) (home : ℕ → Offset) (records : List ℕ) (undef n : ℕ) (slots y y′ e e′ : List ℕ) where
-  pub listed-is : y′ ≡ splice y 0 (symbolTable f h base own home records) → e′ ≡ splice e 0 (externTable f h base undef slots n) → NamesAre f h base own home records undef n slots y y′ e e′
+module _ (f : List ℕ) (h : Header) (base : ℕ) (home : ℕ → Offset) (records : List ℕ) (undef n : ℕ) (slots y y′ e e′ : List ℕ) where
+  pub listed-is : y′ ≡ splice y 0 (symbolTable f h base home records) → e′ ≡ splice e 0 (externTable f h base undef slots n) → NamesAre f h base home records undef n slots y y′ e e′
   listed-is p q = record { symbols = p; externs = q }
 
-module _ (f : List ℕ) (h : Header) (base : ℕ) (own : ℕ → Bool) (home : ℕ → Offset) (undef n : ℕ) (slots y y′ e e′ a w : List ℕ) where
-  pub names-are : a ≡ splice (replicate MAX-SECTIONS 0) 0 (homeRecords f h (h .sections)) → h .sections ≤ MAX-SECTIONS → w ≡ part a 0 (h .sections) → NamesAre f h base own home w undef n slots y y′ e e′
-      → NamesAre f h base own home (homeRecords f h (h .sections)) undef n slots y y′ e e′
+module _ (f : List ℕ) (h : Header) (base : ℕ) (home : ℕ → Offset) (undef n : ℕ) (slots y y′ e e′ a w : List ℕ) where
+  pub names-are : a ≡ splice (replicate MAX-SECTIONS 0) 0 (homeRecords f h (h .sections)) → h .sections ≤ MAX-SECTIONS → w ≡ part a 0 (h .sections) → NamesAre f h base home w undef n slots y y′ e e′
+      → NamesAre f h base home (homeRecords f h (h .sections)) undef n slots y y′ e e′
   names-are p k q x =
       let g : w ≡ homeRecords f h (h .sections) = filled _ a w MAX-SECTIONS (h .sections) p k q in
-      subst (λ (l : List ℕ). NamesAre f h base own home l undef n slots y y′ e e′) g x
+      subst (λ (l : List ℕ). NamesAre f h base home l undef n slots y y′ e e′) g x
 
-pub ruleset parts = (laid-is, starts-are, listed-is, names-are)
+pub ruleset parts = (laid-is, listed-is, names-are)
 
-pub stored-is : (a : Arch) (f : List ℕ) (h : Header) (base : ℕ) (own : ℕ → Bool) (home : ℕ → Offset) (slots : List ℕ) (start : RVA) (undef pages n : ℕ) (i i′ m m′ s s′ y y′ e e′ x x′ k k′ : List ℕ) → Limits f h slots
-    → start ≡ rva (undefStart f h) → undef ≡ undefStart f h % 2 ^ 32 → pages ≡ mappedPages f h % 2 ^ 32 → a ≡ archBy (archOf (h .machine)) → n ≡ length slots
-    → LayoutIs f h base (startsTo f h (h .sections)) (start .0) pages n s s′ i i′ m m′ → NamesAre f h base own home (homeRecords f h (h .sections)) (start .0) n slots y y′ e e′
-    → BothWritten (fixTable base (outcome a f h own home undef (bisect f h slots)) (relocationCount f h) (h .sections)) (skipTable (outcome a f h own home undef (bisect f h slots)) (relocationCount f h) (h .sections)) x x′ k k′
-    → storage i′ m′ s′ y′ e′ x′ k′ ≡ storedBy f h base own home slots (bisect f h slots) (storage i m s y e x k)
+pub stored-is : (a : Arch) (f : List ℕ) (h : Header) (base : ℕ) (homes starts codes slots first : List ℕ) (start : RVA) (undef pages n : ℕ) (i i′ m m′ s s′ y y′ e e′ x x′ k k′ : List ℕ) → Known f h homes starts codes slots
+    → start ≡ rva (undefStart f h) → undef ≡ undefStart f h % 2 ^ 32 → pages ≡ mappedPages f h % 2 ^ 32 → a ≡ archBy (archOf (h .machine)) → n ≡ length slots → first ≡ part starts 0 (h .sections)
+    → LayoutIs f h base first (start .0) pages n s s′ i i′ m m′ → NamesAre f h base (homeIn homes) (homeRecords f h (h .sections)) (start .0) n slots y y′ e e′
+    → BothWritten (fixTable base (outcome a f h (homeIn homes) (targetIn homes starts undef codes)) (relocationCount f h) (h .sections))
+    (skipTable (outcome a f h (homeIn homes) (targetIn homes starts undef codes)) (relocationCount f h) (h .sections)) x x′ k k′
+    → storage i′ m′ s′ y′ e′ x′ k′ ≡ stored f h base (storage i m s y e x k)
 unfolding storedBy
-stored-is a f h base own home slots start undef pages n i i′ m m′ s s′ y y′ e e′ x x′ k k′ lim begins last mapped machine names l w b =
+stored-is a f h base homes starts codes slots first start undef pages n i i′ m m′ s s′ y y′ e e′ x x′ k k′ lim begins last mapped machine names cut l w b =
     let fits = undef-fits f h (lim .pages) in
     let room = lim .pages in
+    let few = lim .few in
     let u : undef ≡ undefStart f h = omega arith in
     let p : pages ≡ mappedPages f h = omega arith in
-    rw (l .image, l .marks, l .sections, w .symbols, w .externs, b .fixes, b .skips, machine, p, begins, u, names)
+    let g : first ≡ startsTo f h (h .sections) = cut ∙ lim .begin in
+    rw (l .image, l .marks, l .sections, w .symbols, w .externs, b .fixes, b .skips, machine, p, begins, u, names, g, lim .names, lim .home, lim .target)
 
 -- ---- 13 behind survey's answer
 module _ (s : Survey) (l : Lengths) (n : ℕ) where
@@ -191,63 +186,45 @@ countOf (Count n) = n
 countOf TooMany = 0
 
 -- ---- 9 and what follows
-module _ (f : List ℕ) (h : Header) (own : ℕ → Bool) (home : ℕ → Offset) (l : Lengths) (buf : List ℕ) (r : Names) (says : r ≡ namesOf (externsBy f h own)) (words : buf ≡ slotWords (externsBy f h own)) where
-  holds : Holds (externsBy f h own) buf r
-  holds = kept-holds (externsBy f h own) buf r says words
+module _ (f : List ℕ) (h : Header) (homes starts codes : List ℕ) (l : Lengths) (codes′ buf : List ℕ) (r : Names) (says : r ≡ namesOf (namesIn f h homes starts codes))
+    (words : buf ≡ slotWords (namesIn f h homes starts codes)) (coded : codes′ ≡ codesAfter f h codes (namesIn f h homes starts codes)) where
+  abbrev ys : List ℕ
+  ys = namesIn f h homes starts codes
 
-  pub plan-over : r ≡ TooMany → PlannedBy f h own home l buf (plan.Refused EXTERNS)
+  abbrev target : ℕ → Target
+  target = targetIn homes starts (undefStart f h) (slotted f h ys codes)
+
+  holds : Holds ys buf r
+  holds = kept-holds ys buf r says words
+
+  pub plan-over : r ≡ TooMany → PlannedIn f h homes starts codes l codes′ buf (plan.Refused EXTERNS)
   unfolding firstFailed pick
   plan-over e =
-      let z : leb (length (externsBy f h own)) MAX-EXTERNS ≡ false = lt-leb (length (externsBy f h own)) MAX-EXTERNS (over-length (externsBy f h own) buf r holds e) in
-      record { says = rw z (plan-refused (EXTERNS - 1) (plannedCounts f h own home (externsBy f h own)) (length (externsBy f h own))); words = words }
+      let z : leb (length ys) MAX-EXTERNS ≡ false = lt-leb (length ys) MAX-EXTERNS (over-length ys buf r holds e) in
+      record { says = rw z (plan-refused (EXTERNS - 1) (plannedCounts f h (homeIn homes) target (length ys) l) (length ys)); words = words; coded = coded }
 
-  pub plan-few : (n : ℕ) (w : List ℕ) (v : Survey) (x : Plan) → mappedPages f h ≤ MAX-PAGES → r ≡ Count n → w ≡ part buf 0 n → v ≡ plannedBy f h own home w → x ≡ withRoom v l n → PlannedBy f h own home l buf x
-  unfolding firstFailed pick countOf
-  plan-few n w v x room e q d y =
-      let few = count-room (externsBy f h own) buf r holds n e in
-      let list = count-list (externsBy f h own) buf r holds n e in
-      let g : w ≡ externsBy f h own = q ∙ part-front buf n ∙ list in
-      let z : leb (length (externsBy f h own)) MAX-EXTERNS ≡ true = le-leb (length (externsBy f h own)) MAX-EXTERNS (rw (← list, length-take) (omega arith)) in
-      let m : n ≡ length (externsBy f h own) = ap countOf (sym e ∙ (rw z at says)) in
-      let t = tallyBy f h own home (bisect f h (externsBy f h own)) in
-      let c = plannedCounts f h own home (externsBy f h own) in
-      let a : v ≡ answerBy (firstFailed (targetChecks t)) c = rw g at d ∙ ap (λ (k : ℕ). answerBy k c) (pages-pass f h (targetChecks t) room) in
-      record { says = rw z (y ∙ ap (λ (u : Survey). withRoom u l n) a ∙ by-answer t c l n (firstFailed (targetChecks t)) refl ∙ ap (planBy (firstFailed (targetChecks t ++ roomCheck c l)) c) m); words = words }
+  pub plan-few : (n : ℕ) (v : Survey) (x : Plan) → mappedPages f h ≤ MAX-PAGES → r ≡ Count n → v ≡ plannedBy f h (homeIn homes) (targetIn homes starts (undefStart f h) codes′) n → x ≡ withRoom v l n
+      → PlannedIn f h homes starts codes l codes′ buf x
+  unfolding firstFailed codesAfter pick countOf
+  plan-few n v x room e d y =
+      let few = count-room ys buf r holds n e in
+      let list = count-list ys buf r holds n e in
+      let z : leb (length ys) MAX-EXTERNS ≡ true = le-leb (length ys) MAX-EXTERNS (rw (← list, length-take) (omega arith)) in
+      let m : n ≡ length ys = ap countOf (sym e ∙ (rw z at says)) in
+      let g : codes′ ≡ slotted f h ys codes = rw z at coded in
+      let t = tallyBy f h (homeIn homes) target in
+      let c = plannedCounts f h (homeIn homes) target (length ys) l in
+      let a : v ≡ answerBy (firstFailed (targetChecks t)) c = rw (g, m) at d ∙ ap (λ (k : ℕ). answerBy k c) (pages-pass f h (targetChecks t) room) in
+      record { says = rw z (y ∙ ap (λ (u : Survey). withRoom u l n) a ∙ by-answer t c l n (firstFailed (targetChecks t)) refl ∙ ap (planBy (firstFailed (targetChecks t ++ roomCheck c l)) c) m); words = words; coded = coded }
 
 pub ruleset naming = (plan-over, plan-few)
 
--- ---- zeros behind a list say nothing
-zero-at : (n i : ℕ) → getD {A = ℕ} (replicate n 0) i 0 ≡ 0
-zero-at zero i = refl
-zero-at (suc n) zero = refl
-zero-at (suc n) (suc i) = zero-at n i
-
-padded : (xs : List ℕ) (size j : ℕ) → length xs ≤ size → getD (splice (replicate size 0) 0 xs) j 0 ≡ getD xs j 0
-padded xs size j k =
-    let z : length {A = ℕ} (replicate size 0) ≡ size = length-replicate {A = ℕ} size 0 in
-    ⊎-elim
-    (λ p. splice-above (replicate size 0) 0 xs j (omega arith) ∙ zero-at size j ∙ sym (List·getD-eq-default xs 0 p))
-    (λ p. rw zero-add at (splice-in (replicate size 0) 0 xs j p (omega arith)))
-    (le-or-lt (length xs) j)
-
-module _ (f : List ℕ) (h : Header) (fits : Fits f h) where
-  own-whole : (m : List ℕ) → m ≡ splice (replicate MAX-SYMBOLS 0) 0 (primaries f h (h .symbols)) → isOwn m ≡ isSymbol f h
-  own-whole m e =
-      let l = length-list {A = ℕ} (λ k. pick (primary f h k) 1 0) (h .symbols) in
-      let s = fits .symbols in
-      fun-ext (λ j. rw (e, padded (primaries f h (h .symbols)) MAX-SYMBOLS j (omega arith))) ∙ own-kept f h
-
-  homes-whole : (m : List ℕ) → m ≡ splice (replicate MAX-SECTIONS 0) 0 (homesTo f h (h .sections)) → homeIn m ≡ sectionHome f h
-  homes-whole m e =
-      let l = length-list {A = ℕ} (λ k. homeWord (homeStart f h (homeOf f h k))) (h .sections) in
-      let s = fits .sections in
-      fun-ext (λ j. rw (e, padded (homesTo f h (h .sections)) MAX-SECTIONS j (omega arith))) ∙ homes-kept f h (fits .pages)
-
 -- ---- from refusal 1 on
-pub pages-room : (f : List ℕ) (h : Header) (code : ℕ) (own homes slots : List ℕ) → Blank f h own homes slots → code ≡ firstFailed (recordChecks f h) → code ≡ 0 → mappedPages f h ≤ MAX-PAGES
-pages-room f h code own homes slots blank is z = (fits-is f h code (blank .header) is z) .pages
+pub pages-room : (f : List ℕ) (h : Header) (code : ℕ) (homes starts codes slots : List ℕ) → Blank f h homes starts codes slots → code ≡ firstFailed (recordChecks f h) → code ≡ 0
+    → mappedPages f h ≤ MAX-PAGES
+pages-room f h code homes starts codes slots blank is z = (fits-is f h code (blank .header) is z) .pages
 
-module _ (f : List ℕ) (h : Header) (l : Lengths) (code : ℕ) (own₀ homes₀ slots₀ : List ℕ) (blank : Blank f h own₀ homes₀ slots₀) (is : code ≡ firstFailed (recordChecks f h)) where
+module _ (f : List ℕ) (h : Header) (l : Lengths) (code : ℕ) (homes₀ starts₀ codes₀ slots₀ : List ℕ) (blank : Blank f h homes₀ starts₀ codes₀ slots₀) (is : code ≡ firstFailed (recordChecks f h)) where
   abbrev behind : List Check
   behind = externChecks (length (externs f h)) ++ (targetChecks (tally f h) ++ roomCheck (counts f h) l)
 
@@ -257,28 +234,51 @@ module _ (f : List ℕ) (h : Header) (l : Lengths) (code : ℕ) (own₀ homes₀
       let g : firstFailed (planChecks f h l) ≡ suc k = failed-first (recordChecks f h) behind k (sym e) in
       (rw g (plan-refused k (counts f h) (length (externs f h))), g)
 
-  pub plans-no : (code ≡ 0 → ⊥) → Plans f h l own₀ homes₀ slots₀ (plan.Refused code)
+  pub plans-no : (code ≡ 0 → ⊥) → Plans f h l homes₀ starts₀ codes₀ slots₀ (plan.Refused code)
   plans-no z = let n = no-by code is z in record { says = n .0; found = λ e. absurd (z (sym (n .1) ∙ e)) }
 
-  pub plans-yes : (own homes slots : List ℕ) (x : Plan) → code ≡ 0 → own ≡ splice own₀ 0 (primaries f h (h .symbols)) → homes ≡ splice homes₀ 0 (homesTo f h (h .sections))
-      → PlannedBy f h (isOwn own) (homeIn homes) l slots x → Plans f h l own homes slots x
-  plans-yes own homes slots x z e d p =
+  -- with the words filled, the plan by them is the one by the rules, and where it is ready they say what the rules do
+  module _ (ok : Ordered f h) (fits : Fits f h) (codes slots : List ℕ) (x : Plan) (p : PlannedIn f h (homeWords f h) (startWords f h) (codeWords f h) l codes slots x) where
+    whole-plan : latePlan f h (homeIn (homeWords f h)) (targetIn (homeWords f h) (startWords f h) (undefStart f h) (slotted f h (externs f h) (codeWords f h))) (length (externs f h)) l
+        ≡ latePlan f h (sectionHome f h) (targets f h) (length (externs f h)) l
+    unfolding firstFailed planBy pick
+    whole-plan =
+        ⊎-elim (λ k. rw (targets-whole f h fits (ok .numbers) k, homes-whole f h fits)) (λ k. rw (lt-leb (length (externs f h)) MAX-EXTERNS k)) (le-or-lt (length (externs f h)) MAX-EXTERNS)
+
+    whole-says : x ≡ planBy (firstFailed behind) (counts f h) (length (externs f h))
+    whole-says = (rw (names-whole f h fits) at (p .says)) ∙ whole-plan
+
+    whole-found : length (externs f h) ≤ MAX-EXTERNS → Found f h (homeWords f h) (startWords f h) codes slots
+    unfolding codesAfter pick
+    whole-found few =
+        let z : leb (length (externs f h)) MAX-EXTERNS ≡ true = le-leb (length (externs f h)) MAX-EXTERNS few in
+        let c : codes ≡ slotted f h (externs f h) (codeWords f h) = rw z at (rw (names-whole f h fits) at (p .coded)) in
+        record {
+          home = homes-whole f h fits;
+          target = rw c (targets-whole f h fits (ok .numbers) few);
+          begin = starts-front f h fits;
+          words = rw (names-whole f h fits) at (p .words);
+          sections = fits .sections;
+          pages = fits .pages;
+          names = few;
+        }
+
+    whole-yes : firstFailed (planChecks f h l) ≡ firstFailed behind → Plans f h l (homeWords f h) (startWords f h) codes slots x
+    whole-yes g =
+        record { says = rw g whole-says; found = λ w. whole-found (leb-true (length (externs f h)) MAX-EXTERNS (check-holds _ _ _ (sym g ∙ w))) }
+
+  pub plans-yes : (homes starts codes codes′ slots : List ℕ) (x : Plan) → code ≡ 0 → homes ≡ splice homes₀ 0 (homesTo f h (h .sections)) → starts ≡ splice starts₀ 0 (startsTo f h (h .sections))
+      → codes ≡ splice codes₀ 0 (codesTo f h (h .symbols)) → PlannedIn f h homes starts codes l codes′ slots x → Plans f h l homes starts codes′ slots x
+  plans-yes homes starts codes codes′ slots x z e d w p =
       let o : Ordered f h = ordered f h [] (sym is ∙ z) in
       let k : Fits f h = fits-is f h code (blank .header) is z in
-      let a : isOwn own ≡ isSymbol f h = own-whole f h k own (rw (blank .no-own) at e) in
-      let b : homeIn homes ≡ sectionHome f h = homes-whole f h k homes (rw (blank .no-homes) at d) in
-      let y : bisect f h (externs f h) ≡ slotOf f h (externs f h) = fun-ext (bisect-externs f h (isSymbol f h)) in
-      let q : PlannedBy f h (isSymbol f h) (sectionHome f h) l slots x = subst (λ (u : ℕ → Offset). PlannedBy f h (isSymbol f h) u l slots x) b (subst (λ (u : ℕ → Bool). PlannedBy f h u (homeIn homes) l slots x) a p) in
-      let g : firstFailed (planChecks f h l) ≡ firstFailed behind = records-rest f h behind o in
-      record {
-        says = rw g (rw y at (q .says));
-        found = λ w.
-            let v : firstFailed behind ≡ 0 = sym g ∙ w in
-            record { symbols = a; starts = b; words = q .words; sections = k .sections; pages = k .pages; names = leb-true (length (externs f h)) MAX-EXTERNS (check-holds _ _ _ v) };
-      }
+      let a : homes ≡ homeWords f h = rw (blank .no-homes) at e in
+      let b : starts ≡ startWords f h = rw (blank .no-starts) at d in
+      let c : codes ≡ codeWords f h = rw (blank .no-codes) at w in
+      rw (a, b) (whole-yes o k codes′ slots x (rw (a, b, c) at p) (records-rest f h behind o))
 
-pub slots-long : (f : List ℕ) (h : Header) (own homes slots : List ℕ) → Blank f h own homes slots → length slots ≡ EXTERN-ROOM
-slots-long f h own homes slots blank = rw (blank .no-slots) (length-replicate {A = ℕ} EXTERN-ROOM 0)
+pub slots-long : (f : List ℕ) (h : Header) (homes starts codes slots : List ℕ) → Blank f h homes starts codes slots → length slots ≡ EXTERN-ROOM
+slots-long f h homes starts codes slots blank = rw (blank .no-slots) (length-replicate {A = ℕ} EXTERN-ROOM 0)
 
 pub ruleset planning = (plans-no, pages-room, plans-yes, slots-long)
 
@@ -310,14 +310,14 @@ plan-says-no (suc j) c n k e =
     (cc, λ q. absurd (omega arith))
 
 -- a plan that is ready
-module _ (f : List ℕ) (h : Header) (own homes slots : List ℕ) (l : Lengths) (p : Plan) (plans : Plans f h l own homes slots p) (c : Counts) (n : ℕ) (is : p ≡ Ready c n) (w : List ℕ) (cut : w ≡ part slots 0 n) where
+module _ (f : List ℕ) (h : Header) (homes starts codes slots : List ℕ) (l : Lengths) (p : Plan) (plans : Plans f h l homes starts codes slots p) (c : Counts) (n : ℕ) (is : p ≡ Ready c n) (w : List ℕ) (cut : w ≡ part slots 0 n) where
   abbrev ready-code : ℕ
   ready-code = firstFailed (planChecks f h l)
 
   told : (ready-code ≡ 0) × (c ≡ counts f h) × (n ≡ length (externs f h))
   told = plan-says ready-code (counts f h) (length (externs f h)) c n (sym is ∙ plans .says)
 
-  found : Found f h own homes slots
+  found : Found f h homes starts codes slots
   found = plans .found (told .0)
 
   externs-are : w ≡ externs f h
@@ -328,11 +328,12 @@ module _ (f : List ℕ) (h : Header) (own homes slots : List ℕ) (l : Lengths) 
       let y : slots ≡ externs f h ++ replicate (EXTERN-ROOM - length (externs f h)) 0 = rw z at (found .words) in
       cut ∙ rw (m, y, part-front) (take-append-seam (externs f h) _)
 
-  pub limits-are : Limits f h w
-  limits-are = rw externs-are (record { sections = found .sections; pages = found .pages; names = found .names })
+  pub known-is : Known f h homes starts codes w
+  known-is =
+      record { home = found .home; target = found .target; begin = found .begin; names = externs-are; sections = found .sections; pages = found .pages; few = rw externs-are (found .names) }
 
-module _ (f : List ℕ) (base : ℕ) (s : Storage) (b : Bool) (h : Header) (own homes slots : List ℕ) (l : Lengths) (p : Plan) (ok : b ≡ baseOk base) (go : not b ≡ false) (head : h ≡ headerOf f) (lens : l ≡ lengthsOf s)
-    (plans : Plans f h l own homes slots p) where
+module _ (f : List ℕ) (base : ℕ) (s : Storage) (b : Bool) (h : Header) (homes starts codes slots : List ℕ) (l : Lengths) (p : Plan) (ok : b ≡ baseOk base) (go : not b ≡ false) (head : h ≡ headerOf f) (lens : l ≡ lengthsOf s)
+    (plans : Plans f h l homes starts codes slots p) where
   allowed : baseOk base ≡ true
   allowed = sym ok ∙ not-false b go
 
@@ -353,12 +354,10 @@ module _ (f : List ℕ) (base : ℕ) (s : Storage) (b : Bool) (h : Header) (own 
       let t = plan-says-no code (counts f h) (length (externs f h)) n (sym e ∙ plans .says) in
       no-case code n refl (t .0) (t .1)
 
-  pub load-yes : (c : Counts) (n : ℕ) → p ≡ Ready c n → (w : List ℕ) → w ≡ part slots 0 n → (after : Storage) → after ≡ storedBy f h base (isOwn own) (homeIn homes) w (bisect f h w) s → Loads f base s after (Loaded c)
+  pub load-yes : (c : Counts) (n : ℕ) → p ≡ Ready c n → (w : List ℕ) → w ≡ part slots 0 n → (after : Storage)
+      → after ≡ stored f h base s → Loads f base s after (Loaded c)
   unfolding loadAnswer pick
   load-yes c n is w cut after e =
-      let t = told f h own homes slots l p plans c n is w cut in
-      let o = found f h own homes slots l p plans c n is w cut in
-      let y : bisect f h (externs f h) ≡ slotOf f h (externs f h) = fun-ext (bisect-externs f h (isSymbol f h)) in
-      let g : after ≡ stored f h base s = rw (externs-are f h own homes slots l p plans c n is w cut, o .symbols, o .starts, y) at e in
+      let t = told f h homes starts codes slots l p plans c n is w cut in
       let k : firstFailed (loadChecks f (headerOf f) base s) ≡ 0 = load-code ∙ t .0 in
-      record { says = rw (k, ← head) (ap Loaded (t .1)); leaves = rw (k, ← head) g }
+      record { says = rw (k, ← head) (ap Loaded (t .1)); leaves = rw (k, ← head) e }

@@ -13,13 +13,12 @@ use Rattle.arch.specs.declared.Offset.{Offset}
 use Rattle.object.specs.declared.Header.{Header}
 use Rattle.object.specs.Format.{headerOf}
 use Rattle.object.specs.Section.{relocationCount}
-use Rattle.object.specs.Symbol.{isSymbol}
 use Rattle.layout.specs.Layout.{undefStart, mappedPages, startsTo}
 use Rattle.homes.specs.Home.{sectionHome, homeRecords}
 use Rattle.checks.specs.Checks.{baseOk}
-use Rattle.externs.specs.declared.Found.{Found}
 use Rattle.externs.specs.Externs.{externs}
-use Rattle.externs.specs.Slot.{slotOf}
+use Rattle.targets.specs.declared.Target.{Target}
+use Rattle.targets.specs.Target.{targets}
 use Rattle.survey.specs.declared.answer.Counts.{Counts}
 use Rattle.load.specs.declared.answer.Load.{Load}
 use Rattle.load.specs.declared.answer.Load.the-variants.{Loaded, Refused}
@@ -74,23 +73,22 @@ lengthsOf s =
 abbrev pub roomOk : Counts → Storage → Bool
 roomOk c s = roomFor c (lengthsOf s)
 
--- what is written: `own` says which numbers are symbols', `home` where a section's home starts, `slots` has the extern names' symbols, `slot`
--- finds a name among them
-module _ (f : List ℕ) (h : Header) (base : ℕ) (own : ℕ → Bool) (home : ℕ → Offset) (slots : List ℕ) (slot : List ℕ → Found) where
+-- what is written: `home` says where a section's home starts, `slots` has the extern names' symbols, `target` says what each symbol comes to
+module _ (f : List ℕ) (h : Header) (base : ℕ) (home : ℕ → Offset) (slots : List ℕ) (target : ℕ → Target) where
   unfoldable pub storedBy : Storage → Storage
   storedBy s =
       record {
         image = laidImage f h base (length slots) (s .image);
         marks = splice (s .marks) 0 (markBytes (mappedPages f h) (wordsFor (mappedPages f h)));
         sections = splice (s .sections) 0 (sectionTable f h base (startsTo f h (h .sections)) (undefStart f h));
-        symbols = splice (s .symbols) 0 (symbolTable f h base own home (homeRecords f h (h .sections)));
+        symbols = splice (s .symbols) 0 (symbolTable f h base home (homeRecords f h (h .sections)));
         externs = splice (s .externs) 0 (externTable f h base (undefStart f h) slots (length slots));
-        fixups = splice (s .fixups) 0 (fixTable base (outcomesBy f h own home slot) (relocationCount f h) (h .sections));
-        skips = splice (s .skips) 0 (skipTable (outcomesBy f h own home slot) (relocationCount f h) (h .sections));
+        fixups = splice (s .fixups) 0 (fixTable base (outcomesBy f h home target) (relocationCount f h) (h .sections));
+        skips = splice (s .skips) 0 (skipTable (outcomesBy f h home target) (relocationCount f h) (h .sections));
       }
 
 abbrev pub stored : List ℕ → Header → ℕ → Storage → Storage
-stored f h base s = storedBy f h base (isSymbol f h) (sectionHome f h) (externs f h) (slotOf f h (externs f h)) s
+stored f h base s = storedBy f h base (sectionHome f h) (externs f h) (targets f h) s
 
 -- the checks: 12, then survey's, then 13
 abbrev pub loadChecks : List ℕ → Header → ℕ → Storage → List Check

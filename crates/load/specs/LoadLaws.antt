@@ -13,7 +13,6 @@ use Rattle.le.specs.Le.{splice, part, part-splice, splice-above}
 use Rattle.object.specs.declared.Header.{Header}
 use Rattle.object.specs.Format.{headerOf}
 use Rattle.object.specs.Section.{relocationCount}
-use Rattle.object.specs.Symbol.{isSymbol}
 use Rattle.layout.specs.Layout.{undefStart, mappedPages, startsTo, tableRecords}
 use Rattle.homes.specs.Home.{sectionHome, homeRecords}
 use Rattle.limits.specs.Limits.{MAX-PAGES, MAX-EXTERNS, SECTION-BYTES, SYMBOL-BYTES, EXTERN-BYTES, FIXUP-BYTES, SKIP-BYTES}
@@ -179,7 +178,7 @@ pub record LoadLeaves (f : List ℕ) (base : ℕ) (s s′ : Storage) (c : Counts
   pub image-behind : (k : ℕ) → PAGE-SIZE * c .pages ≤ k → getD (s′ .image) k 0 ≡ getD (s .image) k 0
   pub marks : Keeps (markBytes (c .pages) (wordsFor (c .pages))) (WORD-BYTES * wordsFor (c .pages)) (s .marks) (s′ .marks)
   pub sections : Keeps (sectionTable f (headerOf f) base (startsTo f (headerOf f) (headerOf f .sections)) (undefStart f (headerOf f))) (SECTION-BYTES * c .sections) (s .sections) (s′ .sections)
-  pub symbols : Keeps (symbolTable f (headerOf f) base (isSymbol f (headerOf f)) (sectionHome f (headerOf f)) (homeRecords f (headerOf f) (headerOf f .sections))) (SYMBOL-BYTES * c .symbols) (s .symbols) (s′ .symbols)
+  pub symbols : Keeps (symbolTable f (headerOf f) base (sectionHome f (headerOf f)) (homeRecords f (headerOf f) (headerOf f .sections))) (SYMBOL-BYTES * c .symbols) (s .symbols) (s′ .symbols)
   pub externs : Keeps (externTable f (headerOf f) base (undefStart f (headerOf f)) (externs f (headerOf f)) (length (externs f (headerOf f)))) (EXTERN-BYTES * c .externs) (s .externs) (s′ .externs)
   pub fixups : Keeps (fixTable base (outcomes f (headerOf f)) (relocationCount f (headerOf f)) (headerOf f .sections)) (FIXUP-BYTES * c .fixups) (s .fixups) (s′ .fixups)
   pub skips : Keeps (skipTable (outcomes f (headerOf f)) (relocationCount f (headerOf f)) (headerOf f .sections)) (SKIP-BYTES * c .skips) (s .skips) (s′ .skips)
@@ -199,7 +198,7 @@ module _ (f : List ℕ) (base : ℕ) (s s′ : Storage) (c : Counts) (loads : Lo
   unfolding countsBy
   sections-are = ap (λ (k : Counts). k .sections) (sym (accepts .counted))
 
-  symbols-are : c .symbols ≡ listedTotal f (headerOf f) (isSymbol f (headerOf f)) (sectionHome f (headerOf f))
+  symbols-are : c .symbols ≡ listedTotal f (headerOf f) (sectionHome f (headerOf f))
   unfolding countsBy
   symbols-are = ap (λ (k : Counts). k .symbols) (sym (accepts .counted))
 
@@ -226,7 +225,7 @@ module _ (f : List ℕ) (base : ℕ) (s s′ : Storage) (c : Counts) (loads : Lo
             λ k q. rw i (laid-past f (headerOf f) base (length (externs f (headerOf f))) (s .image) (accepts .pages) (accepts .names) (rw (← pages-counted) (fits .image)) k (rw (← pages-counted) q));
         marks = keeps _ _ (s .marks) (s′ .marks) (length-marks (c .pages) (wordsFor (c .pages))) (fits .marks) (rw pages-counted (ap (λ (z : Storage). z .marks) l));
         sections = keeps _ _ (s .sections) (s′ .sections) (rw sections-are (sections-fill f (headerOf f) base _ _)) (fits .sections) (ap (λ (z : Storage). z .sections) l);
-        symbols = keeps _ _ (s .symbols) (s′ .symbols) (rw symbols-are (symbols-fill f (headerOf f) base _ _ _)) (fits .symbols) (ap (λ (z : Storage). z .symbols) l);
+        symbols = keeps _ _ (s .symbols) (s′ .symbols) (rw symbols-are (symbols-fill f (headerOf f) base _ _)) (fits .symbols) (ap (λ (z : Storage). z .symbols) l);
         externs = keeps _ _ (s .externs) (s′ .externs) (rw externs-are (length-externs f (headerOf f) base _ _ _)) (fits .externs) (ap (λ (z : Storage). z .externs) l);
         fixups = keeps _ _ (s .fixups) (s′ .fixups) (rw fixups-are (fixes-fill base _ _ _)) (fits .fixups) (ap (λ (z : Storage). z .fixups) l);
         skips = keeps _ _ (s .skips) (s′ .skips) (rw skips-are (skips-fill _ _ _)) (fits .skips) (ap (λ (z : Storage). z .skips) l);

@@ -14,12 +14,10 @@ ghost use mathlib.Core.Path.{_≡_};
 ghost use Prim.Native.Nat.{_≤_};
 ghost use lib.ListN.{length};
 ghost use Rattle.limits.specs.Limits.{MAX-SECTIONS, MAX-PAGES, EXTERN-ROOM};
-ghost use Rattle.object.specs.Symbol.{isOwn};
-ghost use Rattle.layout.specs.Layout.{mappedPages, startsTo};
+ghost use Rattle.layout.specs.Layout.{mappedPages};
 ghost use Rattle.homes.specs.Home.{homeIn, homeRecords};
-ghost use Rattle.externs.specs.Bisect.{bisect};
-ghost use Rattle.load.specs.Load.{layoutRoom, listsRoom, roomFor, storedBy, Loads};
-ghost use Rattle.load.specs.Loading.{LayoutIs, NamesAre, Limits, storage, withRoom, PlannedBy, Blank, Plans};
+ghost use Rattle.load.specs.Load.{layoutRoom, listsRoom, roomFor, stored, Loads};
+ghost use Rattle.load.specs.Loading.{LayoutIs, NamesAre, Known, storage, withRoom, PlannedIn, Blank, Plans};
 
 // The bytes of each lent buffer.
 struct Lengths {
@@ -68,7 +66,8 @@ fn room_ok(c: Counts, l: Lengths) -> bool
     util::both(layout_room(c, l), lists_room(c, l))
 }
 
-fn write_laid(
+// The section table, the image and its marks.
+fn write_layout(
     f: &[u8],
     h: Header,
     base: VA,
@@ -88,44 +87,10 @@ fn write_laid(
     image::lay_marked(f, h, starts, pages, base, undef, n, image, marks);
 }
 
-// The section table, the image and its marks; the starts are filled once.
-fn write_layout(
-    f: &[u8],
-    h: Header,
-    base: VA,
-    undef: RVA,
-    pages: u32,
-    n: u32,
-    sections: &mut [u8],
-    image: &mut [u8],
-    marks: &mut [u8],
-)
-    requires { ⌜ h .sections ≤ MAX-SECTIONS ⌝ }
-    ensures { λ _.
-        ⌜ LayoutIs (now (f .entry)) h (base .0) (startsTo (now (f .entry)) h (h .sections)) (undef .0) pages n (now (sections .entry)) (now (sections .exit)) (now (image .entry))
-        (now (image .exit)) (now (marks .entry)) (now (marks .exit)) ⌝ }
-{
-    let mut starts = [0u32; limits::MAX_SECTIONS];
-    layout::fill_starts(f, h, &mut starts);
-    write_laid(
-        f,
-        h,
-        base,
-        le::words(&starts, h.sections as usize),
-        undef,
-        pages,
-        n,
-        sections,
-        image,
-        marks,
-    );
-}
-
 fn write_listed(
     f: &[u8],
     h: Header,
     base: VA,
-    own: &[u8],
     homes: &[u32],
     records: &[u32],
     undef: RVA,
@@ -135,10 +100,10 @@ fn write_listed(
     externs: &mut [u8],
 )
     ensures { λ _.
-        ⌜ NamesAre (now (f .entry)) h (base .0) (isOwn (now (own .entry))) (homeIn (now (homes .entry))) (now (records .entry)) (undef .0) n (now (slots .entry)) (now (symbols .entry))
+        ⌜ NamesAre (now (f .entry)) h (base .0) (homeIn (now (homes .entry))) (now (records .entry)) (undef .0) n (now (slots .entry)) (now (symbols .entry))
         (now (symbols .exit)) (now (externs .entry)) (now (externs .exit)) ⌝ }
 {
-    symbol_table::write_symbols(f, h, base, own, homes, records, symbols);
+    symbol_table::write_symbols(f, h, base, homes, records, symbols);
     tables::write_externs(f, h, base, undef, slots, n, externs);
 }
 
@@ -147,7 +112,6 @@ fn write_names(
     f: &[u8],
     h: Header,
     base: VA,
-    own: &[u8],
     homes: &[u32],
     undef: RVA,
     n: u32,
@@ -157,7 +121,7 @@ fn write_names(
 )
     requires { ⌜ h .sections ≤ MAX-SECTIONS ⌝ }
     ensures { λ _.
-        ⌜ NamesAre (now (f .entry)) h (base .0) (isOwn (now (own .entry))) (homeIn (now (homes .entry))) (homeRecords (now (f .entry)) h (h .sections)) (undef .0) n (now (slots .entry))
+        ⌜ NamesAre (now (f .entry)) h (base .0) (homeIn (now (homes .entry))) (homeRecords (now (f .entry)) h (h .sections)) (undef .0) n (now (slots .entry))
         (now (symbols .entry)) (now (symbols .exit)) (now (externs .entry)) (now (externs .exit)) ⌝ }
 {
     let mut records = [0u32; limits::MAX_SECTIONS];
@@ -166,7 +130,6 @@ fn write_names(
         f,
         h,
         base,
-        own,
         homes,
         le::words(&records, h.sections as usize),
         undef,
@@ -182,8 +145,9 @@ fn write_all(
     f: &[u8],
     h: Header,
     base: VA,
-    own: &[u8],
     homes: &[u32],
+    starts: &[u32],
+    codes: &[u16],
     slots: &[u32],
     image: &mut [u8],
     marks: &mut [u8],
@@ -193,10 +157,10 @@ fn write_all(
     fixups: &mut [u8],
     skips: &mut [u8],
 )
-    requires { ⌜ Limits (now f) h (now slots) ⌝ }
+    requires { ⌜ Known (now f) h (now homes) (now starts) (now codes) (now slots) ⌝ }
     ensures { λ _.
         ⌜ storage (now (image .exit)) (now (marks .exit)) (now (sections .exit)) (now (symbols .exit)) (now (externs .exit)) (now (fixups .exit)) (now (skips .exit))
-        ≡ storedBy (now (f .entry)) h (base .0) (isOwn (now (own .entry))) (homeIn (now (homes .entry))) (now (slots .entry)) (bisect (now (f .entry)) h (now (slots .entry)))
+        ≡ stored (now (f .entry)) h (base .0)
         (storage (now (image .entry)) (now (marks .entry)) (now (sections .entry)) (now (symbols .entry)) (now (externs .entry)) (now (fixups .entry)) (now (skips .entry))) ⌝ }
 {
     let start = layout::undef_start(f, h);
@@ -204,9 +168,10 @@ fn write_all(
     let pages = layout::page_total(f, h);
     let arch = Arch::by_machine(h.machine);
     let n = slots.len() as u32;
-    write_layout(f, h, base, start, pages, n, sections, image, marks);
-    write_names(f, h, base, own, homes, start, n, slots, symbols, externs);
-    lists::write_relocations(arch, f, h, own, homes, undef, slots, base, fixups, skips);
+    let first = le::words(starts, h.sections as usize);
+    write_layout(f, h, base, first, start, pages, n, sections, image, marks);
+    write_names(f, h, base, homes, start, n, slots, symbols, externs);
+    lists::write_relocations(arch, f, h, homes, starts, undef, codes, base, fixups, skips);
 }
 
 // What is known before a buffer is touched: a refusal, or the counts and how many extern names there are.
@@ -236,21 +201,18 @@ fn plan_names(
     f: &[u8],
     h: Header,
     l: Lengths,
-    own: &[u8],
     homes: &[u32],
+    starts: &[u32],
+    codes: &mut [u16],
     slots: &mut [u32; limits::EXTERN_ROOM],
 ) -> Plan
     requires { ⌜ mappedPages (now f) h ≤ MAX-PAGES ⌝ }
-    ensures { λ r. ⌜ PlannedBy (now (f .entry)) h (isOwn (now (own .entry))) (homeIn (now (homes .entry))) l (now (slots .exit)) r ⌝ }
+    ensures { λ r. ⌜ PlannedIn (now (f .entry)) h (now (homes .entry)) (now (starts .entry)) (now (codes .entry)) l (now (codes .exit)) (now (slots .exit)) r ⌝ }
     ensures { λ _. ⌜ length (now (slots .exit)) ≡ EXTERN-ROOM ⌝ }
 {
-    match externs::collect(f, h, own, slots) {
+    match externs::collect(f, h, codes, slots) {
         Names::TooMany => Plan::Refused(refusal::EXTERNS),
-        Names::Count(n) => with_room(
-            survey::survey_planned(f, h, own, homes, le::words(slots, n)),
-            l,
-            n,
-        ),
+        Names::Count(n) => with_room(survey::survey_planned(f, h, homes, starts, codes, n), l, n),
     }
 }
 
@@ -259,19 +221,21 @@ fn plan_file(
     f: &[u8],
     h: Header,
     l: Lengths,
-    own: &mut [u8],
     homes: &mut [u32],
+    starts: &mut [u32],
+    codes: &mut [u16],
     slots: &mut [u32; limits::EXTERN_ROOM],
 ) -> Plan
-    requires { ⌜ Blank (now f) h (now own) (now homes) (now slots) ⌝ }
-    ensures { λ r. ⌜ Plans (now (f .entry)) h l (now (own .exit)) (now (homes .exit)) (now (slots .exit)) r ⌝ }
+    requires { ⌜ Blank (now f) h (now homes) (now starts) (now codes) (now slots) ⌝ }
+    ensures { λ r. ⌜ Plans (now (f .entry)) h l (now (homes .exit)) (now (starts .exit)) (now (codes .exit)) (now (slots .exit)) r ⌝ }
     ensures { λ _. ⌜ length (now (slots .exit)) ≡ EXTERN-ROOM ⌝ }
 {
     let code = survey::records_code(f, h);
     if code == 0 {
-        object::fill_primaries(f, h, own);
         homes::fill_homes(f, h, homes);
-        plan_names(f, h, l, own, homes, slots)
+        layout::fill_starts(f, h, starts);
+        codes::fill_codes(f, h, codes);
+        plan_names(f, h, l, homes, starts, codes, slots)
     } else {
         Plan::Refused(code)
     }
@@ -308,18 +272,20 @@ pub fn load(
         skips: skips.len() as u64,
     };
     let h = object::read_header(f);
-    let mut own = [0u8; limits::MAX_SYMBOLS];
     let mut homes = [0u32; limits::MAX_SECTIONS];
+    let mut starts = [0u32; limits::MAX_SECTIONS];
+    let mut codes = [0u16; limits::MAX_SYMBOLS];
     let mut slots = [0u32; limits::EXTERN_ROOM];
-    match plan_file(f, h, l, &mut own, &mut homes, &mut slots) {
+    match plan_file(f, h, l, &mut homes, &mut starts, &mut codes, &mut slots) {
         Plan::Refused(n) => Load::Refused(n),
         Plan::Ready(c, n) => {
             write_all(
                 f,
                 h,
                 base,
-                &own,
                 &homes,
+                &starts,
+                &codes,
                 le::words(&slots, n),
                 image,
                 marks,

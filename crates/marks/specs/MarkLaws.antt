@@ -1,6 +1,6 @@
 -- What holds of the marks, as later layers ask it: the count is the count of marked pages.
 use mathlib.Core.Path.{_≡_, refl, sym, _∙_}
-use mathlib.Core.Bool.{Bool, false}
+use mathlib.Core.Bool.{Bool, true, false}
 use mathlib.Core.List.{List}
 use mathlib.Core.Logic.{⊎-elim}
 use Prim.Native.Nat.{ℕ, zero, suc, _+_, _-_, _*_, _/_, _%_, _^_, _≤_, _<_}
@@ -10,13 +10,25 @@ use lib.ListN.{length}
 use lib.Count.{ones, ones-step, ones-le}
 use lib.Dec.{eqb}
 use Rattle.util.specs.Pick.{pick, yes-no}
-use Rattle.util.specs.Prefix.{sumTo, countTo, sum-front, sum-plus, sum-same, sum-zero, sum-rows, count-is-sum}
+use Rattle.util.specs.Prefix.{all-at, all-of, sumTo, countTo, sum-front, sum-plus, sum-same, sum-zero, sum-rows, count-is-sum}
 use Rattle.le.specs.Le.{get-below, IsBytes}
-use Rattle.marks.specs.Marks.{WORD-PAGES, WORD-BYTES, marked, pageCount, wordAt}
+use Rattle.marks.specs.Marks.{WORD-PAGES, WORD-BYTES, marked, allMarked, pageCount, wordAt}
 
 -- marks are bytes, and a word of them is below 2 ^ 64
 pub word-less : (m : List ℕ) (w : ℕ) → IsBytes m → wordAt m w < 2 ^ 64
 word-less m w b = get-below WORD-BYTES m (WORD-BYTES * w) b
+
+-- ---- a range of pages is marked where each of them is
+module _ (m : List ℕ) (a b : ℕ) where
+  pub pages-at : (p : ℕ) → allMarked m a b ≡ true → a ≤ p → p < b → marked m p ≡ true
+  unfolding allMarked
+  pages-at p e h l =
+      let z : a + (p - a) ≡ p = omega arith in
+      rw z at (all-at (λ k. marked m (a + k)) (b - a) (p - a) e (omega arith))
+
+  pub pages-of : ((p : ℕ) → a ≤ p → p < b → marked m p ≡ true) → allMarked m a b ≡ true
+  unfolding allMarked
+  pages-of h = all-of (λ k. marked m (a + k)) (b - a) (λ k l. h (a + k) (omega arith) (omega arith))
 
 -- ---- the count: a word's ones are its bits' sum, so the words' ones are the marked pages
 ones-bits : (k w : ℕ) → w < 2 ^ k → ones w ≡ sumTo (λ j. w / 2 ^ j % 2) k

@@ -1,6 +1,6 @@
 // The marks of mapped pages, from pagemap.rs: one bit a page, in 64-bit words. Asking for them, counting them, and putting those of the first pages.
 ghost use mathlib.Core.Path.{_≡_};
-ghost use Prim.Native.Nat.{_-_, _*_, _%_, _<_, _^_};
+ghost use Prim.Native.Nat.{_+_, _-_, _*_, _%_, _<_, _^_};
 ghost use lib.Count.{ones};
 ghost use Rattle.le.specs.Le.{le, splice};
 ghost use Rattle.marks.specs.Marks.{WORD-PAGES, WORD-BYTES, wordsFor, wordAt, marked, allMarked, pageCount, markWord, marksPut};
@@ -39,6 +39,48 @@ pub fn all_marked(marks: &[u8], from: u64, to: u64) -> bool
     true
 }
 
+// The lowest n bits.
+fn ones(n: u64) -> u64
+    requires { ⌜ n < WORD-PAGES ⌝ }
+    ensures { λ r. ⌜ r ≡ 2 ^ n - 1 ⌝ }
+{
+    let above = 1 << n;
+    if above == 0 { 0 } else { above - 1 }
+}
+
+// Whether each page of word w is marked.
+fn word_marked(marks: &[u8], w: u64) -> bool
+    requires { ⌜ WORD-BYTES * w < 2 ^ 64 ⌝ }
+    ensures { λ r. ⌜ r ≡ allMarked (now (marks .entry)) (WORD-PAGES * w) (WORD-PAGES * w + WORD-PAGES) ⌝ }
+{
+    le::u64_at(marks, (WORD_BYTES * w) as usize) == u64::MAX
+}
+
+// Whether each of its n lowest pages is.
+fn low_marked(marks: &[u8], w: u64, n: u64) -> bool
+    requires { ⌜ (WORD-BYTES * w < 2 ^ 64) × (n < WORD-PAGES) ⌝ }
+    ensures { λ r. ⌜ r ≡ allMarked (now (marks .entry)) (WORD-PAGES * w) (WORD-PAGES * w + n) ⌝ }
+{
+    let word = le::u64_at(marks, (WORD_BYTES * w) as usize);
+    let low = ones(n);
+    word % (low + 1) == low
+}
+
+// Whether each of the first pages is marked, a word at a time.
+pub fn first_marked(marks: &[u8], pages: u64) -> bool
+    ensures { λ r. ⌜ r ≡ allMarked (now (marks .entry)) 0 pages ⌝ }
+{
+    let n = pages / WORD_PAGES;
+    let mut w: u64 = 0;
+    while w < n {
+        if !word_marked(marks, w) {
+            return false;
+        }
+        w += 1;
+    }
+    low_marked(marks, n, pages % WORD_PAGES)
+}
+
 // How many pages word w marks.
 fn ones_at(marks: &[u8], w: usize) -> u64
     requires { ⌜ WORD-BYTES * w < 2 ^ 64 ⌝ }
@@ -59,15 +101,6 @@ pub fn page_count(marks: &[u8]) -> u64
         w += 1;
     }
     sum
-}
-
-// The lowest n bits.
-fn ones(n: u64) -> u64
-    requires { ⌜ n < WORD-PAGES ⌝ }
-    ensures { λ r. ⌜ r ≡ 2 ^ n - 1 ⌝ }
-{
-    let above = 1 << n;
-    if above == 0 { 0 } else { above - 1 }
 }
 
 // Word w of the marks of the first pages: ones for those that are left for it.

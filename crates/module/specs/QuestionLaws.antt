@@ -33,6 +33,7 @@ use Rattle.module.specs.Questions.{
   probeVa,
   sectionAt,
   fillTo,
+  fillCount,
   filled,
   blank,
   nth,
@@ -119,6 +120,14 @@ fill-past : (table : List ℕ) (n : ℕ) (t : List Section) (r : ℕ) → n ≤ 
 unfolding fillTo
 fill-past table zero t r h = refl
 fill-past table (suc n) t r h = getD-set-other (fillTo table n t) n r (sectionAt table n) blank (λ e. omega arith) ∙ fill-past table n t r (omega arith)
+
+module _ (table : List ℕ) (t : List Section) where
+  -- the answer is the number of the table's records where there is room for them, and less where there is not
+  pub filled-all : length table / SECTION-BYTES ≤ length t → fillCount table t ≡ length table / SECTION-BYTES
+  filled-all h = omega arith
+
+  pub filled-short : length t < length table / SECTION-BYTES → fillCount table t < length table / SECTION-BYTES
+  filled-short h = omega arith
 
 module _ (table : List ℕ) (t : List Section) (r : ℕ) where
   pub filled-record : r < length table / SECTION-BYTES → r < length t → nth (filled table t) r ≡ sectionAt table r

@@ -1,4 +1,5 @@
 -- The section table as a list of records, and the questions to it (01, "module.rs").
+use mathlib.Core.Path.{_≡_}
 use mathlib.Core.Bool.{Bool, true, false}
 use mathlib.Core.List.{List, [], _∷_}
 use Prim.Native.Nat.{ℕ, zero, suc, _+_, _-_, _/_, _%_, _^_, min}
@@ -102,8 +103,16 @@ fillTo table zero t = t
 fillTo table (suc n) t = set (fillTo table n t) n (sectionAt table n)
 
 -- as many as both have
+abbrev pub fillCount : List ℕ → List Section → ℕ
+fillCount table t = min (length table / SECTION-BYTES) (length t)
+
 abbrev pub filled : List ℕ → List Section → List Section
-filled table t = fillTo table (min (length table / SECTION-BYTES) (length t)) t
+filled table t = fillTo table (fillCount table t) t
+
+-- the answer says how many, and the records are there
+pub record Fills (table : List ℕ) (t t′ : List Section) (r : ℕ) : Type 0 where
+  pub says : r ≡ fillCount table t
+  pub leaves : t′ ≡ filled table t
 
 -- what stands past the end of a table
 abbrev pub blank : Section

@@ -24,7 +24,7 @@ ghost use Rattle.module.specs.Questions.{
   isInImage,
   SECTION-WORDS,
   sectionAt,
-  filled,
+  Fills,
 };
 use answers::AddressAnswer;
 use arch::VA;
@@ -71,9 +71,10 @@ fn to_fill(bytes: usize, room: usize) -> usize
     if n < room { n } else { room }
 }
 
-// The records of the section table that load wrote, as many as it has and as there is room for.
-pub fn fill_sections(table: &[u8], out: &mut [Section])
-    ensures { λ _. ⌜ now (out .exit) ≡ filled (now (table .entry)) (now (out .entry)) ⌝ }
+// The records of the section table that load wrote, as many as it has and as there is room for, and how many these are: fewer than load's
+// count of sections where `out` has too little room.
+pub fn fill_sections(table: &[u8], out: &mut [Section]) -> usize
+    ensures { λ r. ⌜ Fills (now (table .entry)) (now (out .entry)) (now (out .exit)) r ⌝ }
 {
     let n = to_fill(table.len(), out.len());
     let mut i = 0;
@@ -81,6 +82,7 @@ pub fn fill_sections(table: &[u8], out: &mut [Section])
         out[i] = section_at(table, i);
         i += 1;
     }
+    n
 }
 
 // As far behind `to` as x lies behind `from`.

@@ -8,22 +8,23 @@ use native.Mathlib.Nat.{add-zero, sub-zero, pow-suc, pow-le-pow-right}
 use native.Mathlib.Numerals.{add-one}
 use native.Mathlib.Omega.{arith}
 use borrow.Author.Tests.{lt-ltb, le-ltb, le-leb, lt-leb, eq-eqb, ne-eqb}
-use lib.Dec.{leb, eqb}
+use lib.Dec.{eqb}
 use lib.ListN.{length, getD, drop, drop-of-length-le, List·getD-eq-default}
 use lib.Seq.{drop-cons}
 use Rattle.util.specs.Pick.{pick, le-or-lt}
 use Rattle.le.specs.Le.{get, part, part-most}
 use Rattle.object.specs.declared.Header.{Header}
-use Rattle.object.specs.Format.{NAME-SIZE, stringTable, stringLength}
+use Rattle.object.specs.Format.{NAME-SIZE, symbolRecordAt, stringTable, stringLength}
 use Rattle.names.specs.declared.Order.{Order}
 use Rattle.names.specs.declared.Order.the-variants.{Less, Equal, Greater}
+use Rattle.names.specs.declared.Span.{Span}
 use Rattle.names.specs.declared.Name.{Name}
 use Rattle.names.specs.declared.Name.the-variants.{Good, Bad}
-use Rattle.names.specs.Bytes.{run, visible, isDigit, goodSymbolName, goodSectionName, allVisible, allDigits, decimal, decimalTo, compareBytes, sameBytes}
+use Rattle.names.specs.Bytes.{run, goodSymbolName, goodSectionName, allVisible, allDigits, decimal, decimalTo, compareBytes, sameBytes}
 use Rattle.names.specs.declared.Digits.{Digits}
 use Rattle.names.specs.declared.Digits.the-variants as digits
-use Rattle.names.specs.Name.{longRun, symbolRun, SLASH, slashOffset, slashBy, slashRun, sectionRun, checked, nameBytes}
-use Rattle.names.specs.NameLaws.{slash-is}
+use Rattle.names.specs.Name.{longRun, symbolRun, SLASH, slashOffset, slashBy, slashRun, sectionRun, checked, nameBytes, leftFrom, longSpan, spanAt, symbolSpan, symbolText}
+use Rattle.names.specs.NameLaws.{slash-is, text-run}
 
 left-suc : (i l : ℕ) → i < l → l - i ≡ suc (l - (i + 1))
 left-suc i l h = omega arith
@@ -265,11 +266,43 @@ module _ (f : List ℕ) (h : Header) (x : Name) (a b : ℕ) where
   pub section-text-by : {r : List ℕ} → r ≡ nameBytes f x → x ≡ sectionRun f h a → a ≡ b → r ≡ nameBytes f (sectionRun f h b)
   section-text-by p q e = rw (← e, ← q) p
 
-  pub symbol-text-by : {r : List ℕ} → r ≡ nameBytes f x → x ≡ symbolRun f h a → a ≡ b → r ≡ nameBytes f (symbolRun f h b)
-  symbol-text-by p q e = rw (← e, ← q) p
-
   pub section-name-by : {r : Name} → r ≡ checked goodSectionName f x → x ≡ sectionRun f h a → a ≡ b → r ≡ checked goodSectionName f (sectionRun f h b)
   section-name-by p q e = rw (← e, ← q) p
 
   pub symbol-name-by : {r : Name} → r ≡ checked goodSymbolName f x → x ≡ symbolRun f h a → a ≡ b → r ≡ checked goodSymbolName f (symbolRun f h b)
   symbol-name-by p q e = rw (← e, ← q) p
+
+-- ---- spans
+module _ (l o : ℕ) where
+  pub left-low : o < 4 → 0 ≡ leftFrom l o
+  unfolding leftFrom pick
+  left-low k = rw (lt-leb 4 o k)
+
+  pub left-past : 4 ≤ o → l ≤ o → 0 ≡ leftFrom l o
+  unfolding leftFrom pick
+  left-past j k = rw (le-leb 4 o j) (omega arith)
+
+  pub left-some : 4 ≤ o → l - o ≡ leftFrom l o
+  unfolding leftFrom pick
+  left-some j = rw (le-leb 4 o j)
+
+pub ruleset lefts = (left-low, left-past, left-some)
+
+module _ (f : List ℕ) (h : Header) where
+  pub long-span-is : (t l m o : ℕ) → t ≡ stringTable h → l ≡ stringLength f h → m ≡ leftFrom l o → _≡_ {A = Span} (record { at = t + o; most = m }) (longSpan f h o)
+  unfolding longSpan
+  long-span-is t l m o a b c = rw (c, b, a)
+
+  module _ (at j : ℕ) (is : at ≡ symbolRecordAt h j) (r : ℕ) (read : r ≡ get 4 f at) where
+    pub span-long : (x : Span) (o : ℕ) → eqb r 0 ≡ true → o ≡ get 4 f (at + 4) → x ≡ longSpan f h o → x ≡ symbolSpan f h j
+    unfolding spanAt pick
+    span-long x o z q p = rw (← is, ← read, z, ← q) p
+
+    pub span-short : eqb r 0 ≡ false → _≡_ {A = Span} (record { at = at; most = NAME-SIZE }) (symbolSpan f h j)
+    unfolding spanAt pick
+    span-short z = rw (← is, ← read, z)
+
+  pub symbol-text-by : (x : Span) (j n : ℕ) {r : List ℕ} → r ≡ part f (x .at) n → n ≡ run f (x .at) (x .most) → x ≡ symbolSpan f h j → r ≡ symbolText f h j
+  symbol-text-by x j n p q e = rw (← e, ← text-run f (x .at) (x .most), ← q) p
+
+pub ruleset spans = (long-span-is, span-long, span-short)

@@ -14,6 +14,11 @@ unfoldable pub run : List ℕ → ℕ → ℕ → ℕ
 run f i zero = 0
 run f i (suc n) = pick (eqb (getD f i 0) 0) 0 (suc (run f (i + 1) n))
 
+-- the bytes before the first zero, or all
+unfoldable pub upToZero : List ℕ → List ℕ
+upToZero [] = []
+upToZero (x ∷ xs) = pick (eqb x 0) [] (x ∷ upToZero xs)
+
 -- a byte of a name: 0x21 to 0x7E
 abbrev pub visible : ℕ → Bool
 visible b = leb 0x21 b && leb b 0x7E

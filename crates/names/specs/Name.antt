@@ -10,9 +10,10 @@ use Rattle.object.specs.declared.Header.{Header}
 use Rattle.object.specs.Format.{NAME-SIZE, LENGTH-SIZE, sectionHeaderAt, symbolRecordAt, stringTable, stringLength}
 use Rattle.names.specs.declared.Name.{Name}
 use Rattle.names.specs.declared.Name.the-variants.{Good, Bad}
+use Rattle.names.specs.declared.Span.{Span}
 use Rattle.names.specs.declared.Digits.{Digits}
 use Rattle.names.specs.declared.Digits.the-variants as digits
-use Rattle.names.specs.Bytes.{run, goodSectionName, goodSymbolName, allDigits, decimal}
+use Rattle.names.specs.Bytes.{run, upToZero, goodSectionName, goodSymbolName, allDigits, decimal}
 
 -- the bytes of a name: that part of the file; of a bad one none
 unfoldable pub nameBytes : List ℕ → Name → List ℕ
@@ -73,12 +74,30 @@ sectionName f h i = sectionNameAt f h (sectionHeaderAt h i)
 abbrev pub symbolName : List ℕ → Header → ℕ → Name
 symbolName f h j = symbolNameAt f h (symbolRecordAt h j)
 
--- the bytes where it stands, whether they obey the rule or not: what names are compared by once 6 has passed
+-- ---- the bytes where a name stands, whether they obey the rule or not: what names are compared by once 6 has passed
 abbrev pub sectionText : List ℕ → Header → ℕ → List ℕ
 sectionText f h i = nameBytes f (sectionRun f h (sectionHeaderAt h i))
 
+-- what a string table has from an offset of at least 4 on, and so a long name's span; below 4 it has none
+unfoldable pub leftFrom : ℕ → ℕ → ℕ
+leftFrom length offset = pick (leb LENGTH-SIZE offset) (length - offset) 0
+
+unfoldable pub longSpan : List ℕ → Header → ℕ → Span
+longSpan f h offset = record { at = stringTable h + offset; most = leftFrom (stringLength f h) offset }
+
+-- a symbol's: with the first four bytes zero the next four are the offset; else the field itself
+unfoldable pub spanAt : List ℕ → Header → ℕ → Span
+spanAt f h at = pick (eqb (get 4 f at) 0) (longSpan f h (get 4 f (at + 4))) (record { at = at; most = NAME-SIZE })
+
+abbrev pub symbolSpan : List ℕ → Header → ℕ → Span
+symbolSpan f h j = spanAt f h (symbolRecordAt h j)
+
+-- up to the first zero there, or the span's end
+abbrev pub spanText : List ℕ → Span → List ℕ
+spanText f s = upToZero (part f (s .at) (s .most))
+
 abbrev pub symbolText : List ℕ → Header → ℕ → List ℕ
-symbolText f h j = nameBytes f (symbolRun f h (symbolRecordAt h j))
+symbolText f h j = spanText f (symbolSpan f h j)
 
 -- 6 is not given for it
 abbrev pub isGood : Name → Bool

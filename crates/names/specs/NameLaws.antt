@@ -1,24 +1,26 @@
 -- What a good name is: only bytes that a name may have, and an end where one is due (01, "Records").
 -- A byte past the file reads as 0; the survey's refusals 3 and 4 keep every field and the string table within it.
-use mathlib.Core.Path.{_≡_, refl}
+use mathlib.Core.Path.{_≡_, refl, sym, ap}
 use mathlib.Core.Bool.{Bool, true, false, _&&_, not}
-use mathlib.Core.List.{List}
+use mathlib.Core.List.{List, [], _∷_}
 use mathlib.Core.Logic.{_⊎_, inl, inr, ⊎-elim}
 use Prim.Native.Nat.{ℕ, zero, suc, _+_, _-_, _≤_, _<_}
 use native.Mathlib.Omega.{arith}
 use lib.Dec.{ltb, leb, eqb}
-use lib.ListN.{length, getD, List·getD-eq-default}
+use lib.ListN.{length, getD, drop, drop-of-length-le, List·getD-eq-default}
+use lib.Seq.{drop-cons, take-nil}
+use native.Mathlib.Numerals.{add-one}
 use borrow.Author.Tests.{leb-true, ltb-true, eqb-true, eqb-false, not-true}
 use Rattle.util.specs.Pick.{pick, yes-no, le-or-lt, and-left, and-right}
 use Rattle.util.specs.Prefix.{all-at}
-use Rattle.le.specs.Le.{get, part, length-part, part-none}
+use Rattle.le.specs.Le.{get, part, IsBytes, length-part, part-none}
 use Rattle.object.specs.declared.Header.{Header}
 use Rattle.object.specs.Format.{NAME-SIZE, sectionHeaderAt, symbolRecordAt, stringTable, stringLength}
 use Rattle.names.specs.declared.Name.{Name}
 use Rattle.names.specs.declared.Name.the-variants.{Good, Bad}
-use Rattle.names.specs.Bytes.{run, visible, allVisible, goodSectionName, goodSymbolName, allDigits, decimal}
+use Rattle.names.specs.Bytes.{run, upToZero, visible, allVisible, goodSectionName, goodSymbolName, allDigits, decimal}
 use Rattle.names.specs.declared.Digits.the-variants as digits
-use Rattle.names.specs.Name.{nameBytes, shortRun, longRun, symbolRun, slashRun, slashOffset, slashBy, slashDigits, sectionRun, checked, sectionNameAt, symbolNameAt, sectionName, symbolName, SLASH}
+use Rattle.names.specs.Name.{nameBytes, shortRun, longRun, symbolRun, slashRun, slashOffset, slashBy, slashDigits, sectionRun, checked, sectionNameAt, symbolNameAt, sectionName, symbolName, SLASH, leftFrom, longSpan, spanAt, spanText, symbolText}
 
 -- ---- where a run ends
 -- one more byte: a zero ends the run, any other is passed
@@ -267,3 +269,86 @@ slash-picked f h false o = refl
 pub slash-is : (f : List ℕ) (h : Header) (at : ℕ) → slashRun f h at ≡ slashBy f h (slashOffset f at)
 unfolding slashRun slashOffset
 slash-is f h at = slash-picked f h (leb 2 (run f at NAME-SIZE) && allDigits (slashDigits f at)) (decimal (slashDigits f at))
+
+-- ---- the bytes where a symbol's name stands
+-- the next byte: a zero ends the text, and so does the list's end, which reads as a zero
+pub text-next : (l : List ℕ) (i : ℕ) → upToZero (drop i l) ≡ pick (eqb (getD l i 0) 0) [] (getD l i 0 ∷ upToZero (drop (suc i) l))
+unfolding upToZero pick
+text-next [] zero = refl
+text-next [] (suc i) = refl
+text-next (x ∷ xs) zero = refl
+text-next (x ∷ xs) (suc i) = text-next xs i
+
+-- no byte of it is zero, and each is a byte of the list
+pub text-no-zero : (l : List ℕ) (i : ℕ) → i < length (upToZero l) → 0 < getD (upToZero l) i 0
+unfolding upToZero pick
+text-no-zero [] i h = absurd (omega arith)
+text-no-zero (x ∷ xs) i h = by-zero (eqb x 0) refl (text-no-zero xs) i h
+  where
+    by-zero : (b : Bool) → eqb x 0 ≡ b → ((i : ℕ) → i < length (upToZero xs) → 0 < getD (upToZero xs) i 0)
+        → (i : ℕ) → i < length (pick b [] (x ∷ upToZero xs)) → 0 < getD (pick b [] (x ∷ upToZero xs)) i 0
+    by-zero true e rest i h = absurd (omega arith)
+    by-zero false e rest zero h = let z = eqb-false x 0 e in omega arith
+    by-zero false e rest (suc i) h = rest i (omega arith)
+
+pub text-bytes : (l : List ℕ) → IsBytes l → IsBytes (upToZero l)
+unfolding upToZero pick
+text-bytes [] b i = b i
+text-bytes (x ∷ xs) b i = by-zero (eqb x 0) (text-bytes xs (λ k. b (suc k))) i
+  where
+    by-zero : (t : Bool) → IsBytes (upToZero xs) → (i : ℕ) → getD (pick t [] (x ∷ upToZero xs)) i 0 < 256
+    by-zero true rest i = omega arith
+    by-zero false rest zero = b 0
+    by-zero false rest (suc i) = rest i
+
+-- it is the run there
+pub text-run : (f : List ℕ) (i n : ℕ) → part f i (run f i n) ≡ upToZero (part f i n)
+unfolding part run upToZero pick
+text-run f i zero = refl
+text-run f i (suc n) =
+    ⊎-elim (λ past. let d : drop i f ≡ [] = drop-of-length-le f past in rw (d, take-nil))
+    (λ h.
+    let d : drop i f ≡ getD f i 0 ∷ drop (i + 1) f = rw add-one (drop-cons f i 0 h) in
+    ⊎-elim (λ (e : eqb (getD f i 0) 0 ≡ true). rw (d, e))
+    (λ (e : eqb (getD f i 0) 0 ≡ false). rw (d, e) (ap (λ (l : List ℕ). getD f i 0 ∷ l) (text-run f (i + 1) n)))
+    (yes-no (eqb (getD f i 0) 0)))
+    (le-or-lt (length f) i)
+
+-- ---- a good name is what stands there
+module _ (f : List ℕ) (h : Header) (at n : ℕ) where
+  long-text : (offset : ℕ) → longRun f h offset ≡ Good at n → spanText f (longSpan f h offset) ≡ part f at n
+  unfolding longRun longSpan leftFrom pick
+  long-text offset e =
+      let left = stringLength f h - offset in
+      let r = run f (stringTable h + offset) left in
+      let t : leb 4 offset && ltb r left ≡ true = taken (leb 4 offset && ltb r left) (Good (stringTable h + offset) r) at n e in
+      let q : Good (stringTable h + offset) r ≡ Good at n = taken-is (leb 4 offset && ltb r left) (Good (stringTable h + offset) r) at n e in
+      let a : stringTable h + offset ≡ at = cc in
+      let b : r ≡ n = cc in
+      rw (and-left (leb 4 offset) (ltb r left) t, ← b, ← a) (sym (text-run f (stringTable h + offset) left))
+
+  short-text : (field : ℕ) → pick (eqb (getD f field 0) 0) Bad (shortRun f field) ≡ Good at n → upToZero (part f field NAME-SIZE) ≡ part f at n
+  unfolding pick
+  short-text field e = by-first (eqb (getD f field 0) 0) e
+    where
+      by-first : (b : Bool) → pick b Bad (shortRun f field) ≡ Good at n → upToZero (part f field NAME-SIZE) ≡ part f at n
+      by-first true q = cc
+      by-first false q =
+          let a : field ≡ at = cc in
+          let r : run f field NAME-SIZE ≡ n = cc in
+          rw (← a, ← r) (sym (text-run f field NAME-SIZE))
+
+  run-text : (field : ℕ) → symbolRun f h field ≡ Good at n → spanText f (spanAt f h field) ≡ part f at n
+  unfolding symbolRun spanAt pick
+  run-text field e = by-long (eqb (get 4 f field) 0) e
+    where
+      by-long : (b : Bool) → pick b (longRun f h (get 4 f (field + 4))) (pick (eqb (getD f field 0) 0) Bad (shortRun f field)) ≡ Good at n
+          → spanText f (pick b (longSpan f h (get 4 f (field + 4))) (record { at = field; most = NAME-SIZE })) ≡ part f at n
+      by-long true q = long-text (get 4 f (field + 4)) q
+      by-long false q = short-text field q
+
+-- wherever a symbol's name is good, it is the bytes that names are compared by
+pub symbol-name-text : (f : List ℕ) (h : Header) (j at n : ℕ) → symbolName f h j ≡ Good at n → symbolText f h j ≡ nameBytes f (symbolName f h j)
+unfolding nameBytes
+symbol-name-text f h j at n e =
+    rw e (run-text f h at n (symbolRecordAt h j) (checked-is goodSymbolName f (symbolRun f h (symbolRecordAt h j)) at n e))

@@ -9,6 +9,7 @@ pub use place::section_name;
 pub use place::section_text;
 pub use place::slash_offset;
 pub use place::symbol_name;
+pub use place::symbol_span;
 pub use place::symbol_text;
 pub use text::compare;
 pub use text::good_section_name;
@@ -21,6 +22,12 @@ pub use text::same;
 pub enum Name {
     Good(usize, usize),
     Bad,
+}
+
+// Where a symbol's name stands: its first byte, and the most bytes that it may take.
+pub struct Span {
+    pub at: usize,
+    pub most: usize,
 }
 
 // The offset that the digits behind a slash say.

@@ -1,6 +1,7 @@
 // Names in the records and in the string table.
 use crate::Digits;
 use crate::Name;
+use crate::Span;
 use crate::text::all_digits;
 use crate::text::decimal;
 use crate::text::good_section_name;
@@ -23,6 +24,9 @@ ghost use Rattle.names.specs.Name.{
   nameBytes,
   isGood,
   sectionText,
+  leftFrom,
+  longSpan,
+  symbolSpan,
   symbolText,
 };
 
@@ -183,9 +187,50 @@ pub fn section_text(f: &[u8], h: Header, i: u32) -> &[u8]
     name_bytes(f, section_run(f, h, object::section_header_at(h, i)))
 }
 
+// What a table of `length` bytes has from `offset` on, behind its length field.
+fn left_from(length: u32, offset: u32) -> usize
+    ensures { λ r. ⌜ r ≡ leftFrom length offset ⌝ }
+{
+    let from = offset as usize;
+    if from < object::LENGTH_SIZE {
+        return 0;
+    }
+    if length <= offset {
+        return 0;
+    }
+    (length - offset) as usize
+}
+
+fn long_span(f: &[u8], h: Header, offset: u32) -> Span
+    ensures { λ r. ⌜ r ≡ longSpan (now (f .entry)) h offset ⌝ }
+{
+    let most = left_from(object::string_length(f, h), offset);
+    Span {
+        at: object::string_table(h) + offset as usize,
+        most,
+    }
+}
+
+// Where symbol j's name stands.
+pub fn symbol_span(f: &[u8], h: Header, j: u32) -> Span
+    ensures { λ r. ⌜ r ≡ symbolSpan (now (f .entry)) h j ⌝ }
+{
+    let at = object::symbol_record_at(h, j);
+    let long = le::u32_at(f, at) == 0;
+    if long {
+        long_span(f, h, le::u32_at(f, at + 4))
+    } else {
+        Span {
+            at,
+            most: object::NAME_SIZE,
+        }
+    }
+}
+
 // Of symbol j.
 pub fn symbol_text(f: &[u8], h: Header, j: u32) -> &[u8]
     ensures { λ r. ⌜ now r ≡ symbolText (now (f .entry)) h j ⌝ }
 {
-    name_bytes(f, symbol_run(f, h, object::symbol_record_at(h, j)))
+    let span = symbol_span(f, h, j);
+    le::part(f, span.at, run(f, span.at, span.most))
 }

@@ -1,21 +1,26 @@
 -- The ways through the readers. Assumes nothing.
-use mathlib.Core.Path.{_≡_, refl, _∙_}
+use mathlib.Core.Path.{_≡_, _∙_}
 use mathlib.Core.Bool.{Bool, true, false, _&&_}
 use mathlib.Core.List.{List, [], _∷_}
-use Prim.Native.Nat.{ℕ, _+_, _-_, _/_, _%_, _^_, _≤_, _<_}
+use Prim.Native.Nat.{ℕ, _+_, _*_, _-_, _/_, _%_, _^_, _≤_, _<_}
 use native.Mathlib.Omega.{arith}
 use mathlib.Core.Logic.{⊎-elim}
 use lib.Dec.{eqb}
 use lib.ListN.{getD}
-use borrow.Author.Tests.{eq-eqb, ne-eqb}
+use borrow.Author.Tests.{ne-eqb}
 use Rattle.util.specs.Pick.{pick, le-or-lt}
 use Rattle.util.specs.Align.{roundUp, align-exact, up-one, up-near}
-use Rattle.le.specs.Le.{get, splice, fill-none, fill-again, fill-end}
+use Rattle.le.specs.Le.{get, part, splice, part-at, get-same, fill-none, fill-again, fill-end}
 use Rattle.kinds.specs.Flags.{LNK-NRELOC-OVFL, alignOf}
+use Rattle.kinds.specs.declared.SymbolKind.{SymbolKind}
+use Rattle.kinds.specs.declared.Place.{Place}
 use Rattle.object.specs.declared.Header.{Header}
-use Rattle.object.specs.Format.{RELOCATION-SIZE, HEADER-SIZE, headerOf, stringTable, stringLength, rawSize, rawPointer, relocationPointer, relocationField, flags, auxiliaries}
+use Rattle.object.specs.declared.Records.{Records}
+use Rattle.object.specs.declared.Symbol.{Symbol}
+use Rattle.object.specs.Format.{symbolSize, RELOCATION-SIZE, HEADER-SIZE, headerOf, symbolRecordAt, stringTable, stringLength, rawSize, rawPointer, relocationPointer, relocationField, flags, auxiliaries}
 use Rattle.object.specs.Section.{OVERFLOW-COUNT, fileEnd, rangeLength, extended, relocationRecords, relocationCount, relocationStart, uninitialized}
-use Rattle.object.specs.Symbol.{leftAfter, auxiliariesLeft, primary, primaries, isOwn}
+use Rattle.object.specs.Relocation.{relocationIn, recordsOf, recordAt}
+use Rattle.object.specs.Symbol.{symbolOf, kindOf, placeOf, listedOf, kind, symbolPlace, listedValue, leftAfter, auxiliariesLeft, primary, primaries, isOwn}
 use Rattle.object.specs.SymbolLaws.{left-none, left-again, left-end}
 
 -- ---- the header
@@ -49,6 +54,49 @@ pub extended-is : (f : List ℕ) (h : Header) (i x n : ℕ) {r : Bool} → r ≡
 unfolding extended
 extended-is f h i x n e q p = rw (← q, ← p) e
 
+-- ---- a symbol record from its part of the file
+get-part : (f : List ℕ) (a n m k : ℕ) → k + m ≤ n → get m (part f a n) k ≡ get m f (a + k)
+get-part f a n m k l =
+    get-same m (part f a n) f k (a + k) (λ i q. let e : a + (k + i) ≡ a + k + i = omega arith in rw e at (part-at f a n (k + i) (omega arith)))
+
+pub symbol-is : (f : List ℕ) (h : Header) (r : List ℕ) (j at v n t c x : ℕ) → r ≡ part f at (symbolSize h) → at ≡ symbolRecordAt h j → v ≡ get 4 r 8 → n ≡ get 2 r 12 → t ≡ get 2 r 14 → c ≡ getD r 16 0 → x ≡ getD r 17 0
+    → record { value = v; number = n; «symbol_type» = t; class = c; auxiliaries = x } ≡ symbolOf f h j
+symbol-is f h r j at v n t c x e a d g u w y =
+    let p : r ≡ part f (symbolRecordAt h j) (symbolSize h) = rw a at e in
+    rw (
+      d,
+      g,
+      u,
+      w,
+      y,
+      p,
+      get-part f (symbolRecordAt h j) (symbolSize h) 4 8 (omega arith),
+      get-part f (symbolRecordAt h j) (symbolSize h) 2 12 (omega arith),
+      get-part f (symbolRecordAt h j) (symbolSize h) 2 14 (omega arith),
+      part-at f (symbolRecordAt h j) (symbolSize h) 16 (omega arith),
+      part-at f (symbolRecordAt h j) (symbolSize h) 17 (omega arith),
+    )
+
+module _ (f : List ℕ) (h : Header) (j : ℕ) (s : Symbol) (is : s ≡ symbolOf f h j) where
+  pub kind-is : {r : SymbolKind} → r ≡ kindOf s → r ≡ kind f h j
+  kind-is p = rw is at p
+
+  pub place-is : {r : Place} → r ≡ placeOf s → r ≡ symbolPlace f h j
+  place-is p = rw is at p
+
+  pub value-is : {r : ℕ} → r ≡ listedOf s → r ≡ listedValue f h j
+  value-is p = rw is at p
+
+pub ruleset symbol-ways = (symbol-is, kind-is, place-is, value-is)
+
+pub left-own : (left a : ℕ) → left ≡ 0 → a ≡ pick (eqb left 0) a (left - 1)
+unfolding pick
+left-own left a z = rw z
+
+pub left-less : (left a : ℕ) → (left ≡ 0 → ⊥) → left - 1 ≡ pick (eqb left 0) a (left - 1)
+unfolding pick
+left-less left a n = rw (ne-eqb left 0 n)
+
 -- ---- auxiliary records, one record further
 module _ (f : List ℕ) (h : Header) (j left : ℕ) where
   pub after-own : (n : ℕ) → left ≡ 0 → n ≡ auxiliaries f h j → n ≡ leftAfter f h j left
@@ -77,7 +125,7 @@ own-again f h l b b′ j left x e q m d = fill-again (λ k. pick (primary f h k)
 pub own-is : (own : List ℕ) (j b : ℕ) → b ≡ getD own j 0 → eqb b 1 ≡ isOwn own j
 own-is own j b q = rw q
 
-pub ruleset auxiliary-ways = (after-own, after-less, mark-own, mark-less, own-is)
+pub ruleset auxiliary-ways = (left-own, left-less, after-own, after-less, mark-own, mark-less, own-is)
 
 pub ruleset auxiliary-loop = (left-none, left-again, left-end, fill-none, own-again, fill-end)
 
@@ -144,3 +192,26 @@ moved0 l n a b p q = rw (← q) p
 
 pub moved-byte : (l : List ℕ) (a b k : ℕ) {r : ℕ} → r ≡ getD l (a + k) 0 → a ≡ b → r ≡ getD l (b + k) 0
 moved-byte l a b k p q = rw (← q) p
+
+-- ---- relocations
+module _ (f : List ℕ) (h : Header) (i : ℕ) where
+  pub first-one : (r : Bool) → r ≡ extended f h i → r ≡ true → _≡_ {A = ℕ} 1 (pick (extended f h i) 1 0)
+  unfolding pick
+  first-one r e t = rw (← e, t)
+
+  pub first-zero : (r : Bool) → r ≡ extended f h i → r ≡ false → _≡_ {A = ℕ} 0 (pick (extended f h i) 1 0)
+  unfolding pick
+  first-zero r e t = rw (← e, t)
+
+  pub records-are : (p a n : ℕ) → p ≡ relocationPointer f h i → a ≡ pick (extended f h i) 1 0 → n ≡ relocationCount f h i
+      → record { pointer = p; first = a; count = n } ≡ recordsOf f h i
+  unfolding recordsOf
+  records-are p a n e d q = rw (e, d, q)
+
+pub relocation-read : (f : List ℕ) (r : Records) (k a s t : ℕ) → a ≡ get 4 f (r .pointer + RELOCATION-SIZE * (r .first + k))
+    → s ≡ get 4 f (r .pointer + RELOCATION-SIZE * (r .first + k) + 4) → t ≡ get 2 f (r .pointer + RELOCATION-SIZE * (r .first + k) + 8)
+    → record { address = a; symbol = s; typ = t } ≡ relocationIn f (recordAt r k)
+unfolding relocationIn recordAt
+relocation-read f r k a s t e d q = rw (e, d, q)
+
+pub ruleset relocations = (first-one, first-zero, records-are, relocation-read)

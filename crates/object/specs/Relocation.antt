@@ -1,15 +1,28 @@
 -- Relocation records (01, "Records"; PE/COFF, "COFF Relocations").
+use mathlib.Core.Path.{_≡_, ap, _∙_}
+use mathlib.Core.Bool.{Bool, true, false}
 use mathlib.Core.List.{List}
 use Prim.Native.Nat.{ℕ, _+_, _*_}
+use native.Mathlib.Omega.{arith}
+use Rattle.util.specs.Pick.{pick}
 use Rattle.le.specs.Le.{get}
 use Rattle.object.specs.declared.Header.{Header}
-use Rattle.object.specs.Format.{RELOCATION-SIZE}
-use Rattle.object.specs.Section.{relocationStart}
+use Rattle.object.specs.declared.Records.{Records}
+use Rattle.object.specs.declared.Relocation.{Relocation}
+use Rattle.object.specs.Format.{RELOCATION-SIZE, relocationPointer}
+use Rattle.object.specs.Section.{extended, relocationCount, relocationStart}
+
+-- the record that starts at a place of the file
+unfoldable pub relocationIn : List ℕ → ℕ → Relocation
+relocationIn f at = record { address = get 4 f at; symbol = get 4 f (at + 4); typ = get 2 f (at + 8) }
 
 -- ---- record k of section i
 module _ (f : List ℕ) (h : Header) (i k : ℕ) where
   abbrev pub relocationAt : ℕ
   relocationAt = relocationStart f h i + RELOCATION-SIZE * k
+
+  abbrev pub relocation : Relocation
+  relocation = relocationIn f relocationAt
 
   abbrev pub relocationAddress : ℕ
   relocationAddress = get 4 f relocationAt
@@ -19,3 +32,34 @@ module _ (f : List ℕ) (h : Header) (i k : ℕ) where
 
   abbrev pub relocationType : ℕ
   relocationType = get 2 f (relocationAt + 8)
+
+-- ---- what is found once for a section: its relocation pointer, which record is its relocation 0, and how many there are
+unfoldable pub recordsOf : List ℕ → Header → ℕ → Records
+recordsOf f h i = record { pointer = relocationPointer f h i; first = pick (extended f h i) 1 0; count = relocationCount f h i }
+
+-- where its relocation k starts (`record-place`)
+unfoldable pub recordAt : Records → ℕ → ℕ
+recordAt r k = r .pointer + RELOCATION-SIZE * (r .first + k)
+
+module _ (f : List ℕ) (h : Header) (i : ℕ) where
+  places : (b : Bool) (p k : ℕ) → p + RELOCATION-SIZE * (pick b 1 0 + k) ≡ pick b (p + RELOCATION-SIZE) p + RELOCATION-SIZE * k
+  unfolding pick
+  places true p k = omega arith
+  places false p k = omega arith
+
+  pub record-place : (k : ℕ) → recordAt (recordsOf f h i) k ≡ relocationAt f h i k
+  unfolding recordAt recordsOf relocationStart
+  record-place k = places (extended f h i) (relocationPointer f h i) k
+
+  -- so with these found once, what is read is relocation k, with its symbol
+  pub count-read : (rs : Records) → rs ≡ recordsOf f h i → rs .count ≡ relocationCount f h i
+  unfolding recordsOf
+  count-read rs e = rw e
+
+  module _ (rs : Records) (r : Relocation) (k : ℕ) (is : rs ≡ recordsOf f h i) (read : r ≡ relocationIn f (recordAt rs k)) where
+    pub relocation-read : r ≡ relocation f h i k
+    relocation-read = read ∙ ap (λ (x : Records). relocationIn f (recordAt x k)) is ∙ ap (relocationIn f) (record-place k)
+
+    pub symbol-read : r .symbol ≡ relocationSymbol f h i k
+    unfolding relocationIn
+    symbol-read = rw relocation-read

@@ -13,10 +13,33 @@ use Rattle.kinds.specs.declared.SymbolKind.{SymbolKind}
 use Rattle.kinds.specs.declared.Place.{Place}
 use Rattle.kinds.specs.Symbol.{kindBy, placeBy, listedBy}
 use Rattle.object.specs.declared.Header.{Header}
+use Rattle.object.specs.declared.Symbol.{Symbol}
 use Rattle.object.specs.Format.{symbolValue, sectionField, symbolType, symbolClass, auxiliaries}
+
+-- ---- by the fields behind its name
+abbrev pub kindOf : Symbol → SymbolKind
+kindOf s = kindBy (s .class) (s .«symbol_type») (s .value) (s .auxiliaries)
+
+abbrev pub placeOf : Symbol → Place
+placeOf s = placeBy (toZ w16 (s .number)) (s .class) (s .value)
+
+-- the value that a listing adds to the home's start
+abbrev pub listedOf : Symbol → ℕ
+listedOf s = listedBy (s .class) (s .value)
 
 -- ---- of symbol j
 module _ (f : List ℕ) (h : Header) (j : ℕ) where
+  -- those fields
+  abbrev pub symbolOf : Symbol
+  symbolOf =
+      record {
+        value = symbolValue f h j;
+        number = sectionField f h j;
+        «symbol_type» = symbolType f h j;
+        class = symbolClass f h j;
+        auxiliaries = auxiliaries f h j;
+      }
+
   abbrev pub sectionNumber : ℤ
   sectionNumber = toZ w16 (sectionField f h j)
 

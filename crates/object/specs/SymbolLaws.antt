@@ -13,8 +13,9 @@ use borrow.Author.Tests.{eq-eqb, ne-eqb, eqb-true, eqb-false, lt-ltb, le-ltb}
 use Rattle.util.specs.Pick.{pick, yes-no, le-or-lt}
 use Rattle.util.specs.Prefix.{list-at, list-past}
 use Rattle.object.specs.declared.Header.{Header}
+use Rattle.object.specs.declared.Symbol.{Symbol}
 use Rattle.object.specs.Format.{auxiliaries}
-use Rattle.object.specs.Symbol.{leftAfter, auxiliariesLeft, primary, primaries, isOwn, isSymbol, okAt}
+use Rattle.object.specs.Symbol.{symbolOf, leftAfter, auxiliariesLeft, primary, primaries, isOwn, isSymbol, okAt}
 
 -- ---- as a loop counts what is left: at the first record, one record further, and at the end
 pub left-none : (f : List ℕ) (h : Header) → 0 ≡ auxiliariesLeft f h 0
@@ -24,6 +25,11 @@ left-none f h = refl
 pub left-again : (f : List ℕ) (h : Header) (j left r : ℕ) → left ≡ auxiliariesLeft f h j → r ≡ leftAfter f h j left → r ≡ auxiliariesLeft f h (j + 1)
 unfolding auxiliariesLeft
 left-again f h j left r e p = rw (add-one, ← e) p
+
+-- by the record itself
+pub left-past : (f : List ℕ) (h : Header) (j left r : ℕ) (s : Symbol) → left ≡ auxiliariesLeft f h j → r ≡ pick (eqb left 0) (s .auxiliaries) (left - 1) → s ≡ symbolOf f h j → r ≡ auxiliariesLeft f h (j + 1)
+unfolding leftAfter
+left-past f h j left r s e p q = left-again f h j left r e (rw q at p)
 
 pub left-end : (f : List ℕ) (h : Header) (j n m left : ℕ) → left ≡ auxiliariesLeft f h j → j ≤ n → n ≤ j → n ≡ m → left ≡ auxiliariesLeft f h m
 left-end f h j n m left e a b q = let z : j ≡ n = omega arith in cc

@@ -54,17 +54,11 @@ pub(crate) fn section_u16(f: &[u8], h: Header, i: u32, k: u8) -> u16
     le::u16_at(f, section_header_at(h, i) + k as usize)
 }
 
-// The number at `k` of symbol record j, of 32, 16 and 8 bits.
+// The number at `k` of symbol record j, of 32 and of 8 bits.
 pub(crate) fn symbol_u32(f: &[u8], h: Header, j: u32, k: u8) -> u32
     ensures { λ r. ⌜ r ≡ get 4 (now (f .entry)) (symbolRecordAt h j + k) ⌝ }
 {
     le::u32_at(f, symbol_record_at(h, j) + k as usize)
-}
-
-pub(crate) fn symbol_u16(f: &[u8], h: Header, j: u32, k: u8) -> u16
-    ensures { λ r. ⌜ r ≡ get 2 (now (f .entry)) (symbolRecordAt h j + k) ⌝ }
-{
-    le::u16_at(f, symbol_record_at(h, j) + k as usize)
 }
 
 pub(crate) fn symbol_u8(f: &[u8], h: Header, j: u32, k: u8) -> u8

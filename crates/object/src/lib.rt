@@ -14,6 +14,8 @@ pub use format::section_header_at;
 pub use format::string_length;
 pub use format::string_table;
 pub use format::symbol_record_at;
+pub use relocations::read_relocation;
+pub use relocations::records_of;
 pub use relocations::relocation_address;
 pub use relocations::relocation_symbol;
 pub use relocations::relocation_type;
@@ -35,8 +37,13 @@ pub use symbols::auxiliaries;
 pub use symbols::auxiliaries_past;
 pub use symbols::fill_primaries;
 pub use symbols::is_own;
+pub use symbols::kind_of;
 pub use symbols::left_after;
+pub use symbols::left_by;
+pub use symbols::listed_of;
 pub use symbols::listed_value;
+pub use symbols::place_of;
+pub use symbols::read_symbol;
 pub use symbols::symbol_class;
 pub use symbols::symbol_kind;
 pub use symbols::symbol_place;
@@ -49,4 +56,27 @@ pub struct Header {
     pub section_table: u32,
     pub symbol_table: u32,
     pub symbols: u32,
+}
+
+// The relocations of a section: where their records stand, which record is relocation 0, and how many there are.
+pub struct Records {
+    pub pointer: u32,
+    pub first: u32,
+    pub count: u32,
+}
+
+// A relocation record.
+pub struct Relocation {
+    pub address: u32,
+    pub symbol: u32,
+    pub typ: u16,
+}
+
+// What a symbol record says behind its name.
+pub struct Symbol {
+    pub value: u32,
+    pub number: u16,
+    pub symbol_type: u16,
+    pub class: u8,
+    pub auxiliaries: u8,
 }

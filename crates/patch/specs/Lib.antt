@@ -1,2 +1,3 @@
 pub mod Fixes
+pub mod Inside
 pub mod Patch

@@ -1,1 +1,4 @@
-pub mod Program
+pub mod Output
+pub mod Within
+pub mod Holding
+pub mod OutputLaws

@@ -1,18 +1,19 @@
 -- What the host is told: 0 or the number of a refusal, and results as words at the front of a lent buffer (docs/HOST.md, "Calling from C").
 use mathlib.Core.Path.{_≡_}
 use mathlib.Core.List.{List}
-use Prim.Native.Nat.{ℕ, _+_, _-_}
+use Prim.Native.Nat.{ℕ, zero, suc, _+_, _-_}
 use lib.Dec.{leb, eqb}
 use lib.ListN.{length}
 use Rattle.util.specs.Pick.{pick}
 use Rattle.le.specs.Le.{splice, part}
-use Rattle.refusal.specs.Refusal.{STORAGE, unlessRefused}
+use Rattle.refusal.specs.Refusal.{BASE, STORAGE, POSITION, unlessRefused}
 use Rattle.refusal.specs.declared.Answer.{Answer}
 use Rattle.refusal.specs.declared.Answer.the-variants.{Done, Refused}
 use Rattle.object.specs.Format.{headerOf}
+use Rattle.checks.specs.Checks.{baseOk}
 use Rattle.survey.specs.declared.answer.Survey.{Survey}
 use Rattle.survey.specs.declared.answer.Survey.the-variants as survey
-use Rattle.survey.specs.Survey.{firstFailed, checks, counts}
+use Rattle.survey.specs.Survey.{firstFailed, checks, counts, surveyOf}
 use Rattle.words.specs.Words.{wordBytes}
 use Rattle.results.specs.Results.{COUNTS-BYTES, countsWords, PROGRESS-BYTES, progressWords}
 use Rattle.load.specs.declared.answer.Load.{Load}
@@ -24,9 +25,15 @@ use Rattle.patch.specs.Fixes.{fixCount, fixedFrom}
 use Rattle.patch.specs.Patch.{portion, patchCode}
 use Rattle.aspace.specs.Space.{readCodeAt}
 
--- 13 first, where a buffer has no room for n bytes of results; then the operation's own refusals
-abbrev pub codeWith : ℕ → List ℕ → ℕ → ℕ
-codeWith n out code = pick (leb n (length out)) code STORAGE
+-- the operation's own refusals, 1 to 13; then 13, where a buffer has no room for n bytes of results
+unfoldable pub codeWith : ℕ → List ℕ → ℕ → ℕ
+codeWith n out zero = pick (leb n (length out)) 0 STORAGE
+codeWith n out (suc k) = suc k
+
+-- patch's: 14; 13, where progress has no room or the image's storage is not right; 15
+abbrev pub patchCodeWith : ℕ → List ℕ → ℕ → List ℕ → ℕ → ℕ → List ℕ → ℕ
+patchCodeWith size marks base fixes number position out =
+    pick (leb position (fixCount fixes)) (pick (leb PROGRESS-BYTES (length out)) (patchCode size marks base fixes number position) STORAGE) POSITION
 
 abbrev pub toldIn : List ℕ → List ℕ → List ℕ
 toldIn out words = splice out 0 (wordBytes words)
@@ -66,7 +73,7 @@ portionEnd fixes number position = position + portion (fixCount fixes) number po
 abbrev pub Patched : ℕ → List ℕ → List ℕ → ℕ → ℕ → List ℕ → List ℕ → List ℕ → List ℕ → ℕ → Type 0
 Patched base marks fixes number position image image′ out out′ r =
     ToldBoth
-    (codeWith PROGRESS-BYTES out (patchCode (length image) marks base fixes number position))
+    (patchCodeWith (length image) marks base fixes number position out)
     (fixedFrom base fixes image position (portion (fixCount fixes) number position))
     image
     image′
@@ -90,18 +97,33 @@ unfoldable pub asSurvey : Load → Survey
 asSurvey (load.Loaded c) = survey.Accepted c
 asSurvey (load.Refused n) = survey.Refused n
 
--- survey's answer, told
-unfoldable pub surveyCode : Survey → ℕ
-surveyCode (survey.Accepted c) = 0
-surveyCode (survey.Refused n) = n
+-- survey's answer, told: 13 if the counts that it has cannot be
+unfoldable pub surveyCode : Survey → List ℕ → ℕ
+surveyCode (survey.Accepted c) out = pick (leb COUNTS-BYTES (length out)) 0 STORAGE
+surveyCode (survey.Refused n) out = n
 
 unfoldable pub countsIn : Survey → List ℕ → List ℕ
-countsIn (survey.Accepted c) out = toldIn out (countsWords c)
+countsIn (survey.Accepted c) out = pick (leb COUNTS-BYTES (length out)) (toldIn out (countsWords c)) out
 countsIn (survey.Refused n) out = out
 
 pub record CountsTold (answer : Survey) (out out′ : List ℕ) (r : ℕ) : Type 0 where
-  pub says : r ≡ surveyCode answer
+  pub says : r ≡ surveyCode answer out
   pub result : out′ ≡ countsIn answer out
+
+-- without room for its counts, load: 12; 1 to 11; 13
+unfoldable pub untold : Survey → ℕ
+untold (survey.Accepted c) = STORAGE
+untold (survey.Refused n) = n
+
+abbrev pub unstoredCode : List ℕ → ℕ
+unstoredCode f = untold (surveyOf f)
+
+abbrev pub unlaidCode : List ℕ → ℕ → ℕ
+unlaidCode f base = pick (baseOk base) (unstoredCode f) BASE
+
+-- without room for its progress, patch: 14; 13
+abbrev pub untoldPatchCode : List ℕ → ℕ → ℕ
+untoldPatchCode fixes position = pick (leb position (fixCount fixes)) STORAGE POSITION
 
 -- patch's answer, told
 unfoldable pub patchAnswerCode : Patch → ℕ

@@ -1,5 +1,6 @@
 // What the station's host calls from C: survey, load, patch and read, on numbers and lent bytes. Each answers 0 or the number of its
-// refusal; what else there is to say goes to the front of a lent buffer, as words (docs/HOST.md). Too short a buffer for that is 13.
+// refusal; what else there is to say goes to the front of a lent buffer, as words (docs/HOST.md). Too short a buffer for that is 13, where 13
+// stands in the operation's order, and then nothing is written.
 use arch::VA;
 use load::Load;
 use patch::Patch;
@@ -7,7 +8,19 @@ use refusal::Answer;
 use survey::Survey;
 ghost use mathlib.Core.Path.{_≡_};
 ghost use Rattle.load.specs.Loading.{storage};
-ghost use Rattle.station.specs.Station.{asSurvey, CountsTold, ProgressTold, answerCode, Surveyed, Loaded, Patched, Read};
+ghost use Rattle.station.specs.Station.{
+  asSurvey,
+  CountsTold,
+  ProgressTold,
+  answerCode,
+  unstoredCode,
+  unlaidCode,
+  untoldPatchCode,
+  Surveyed,
+  Loaded,
+  Patched,
+  Read,
+};
 
 pub const COUNTS_BYTES: usize = 80;
 
@@ -18,8 +31,13 @@ fn tell_counts(answer: Survey, out: &mut [u8]) -> u64
 {
     match answer {
         Survey::Accepted(c) => {
-            results::write_counts(c, out);
-            0
+            let room = COUNTS_BYTES <= out.len();
+            if room {
+                results::write_counts(c, out);
+                0
+            } else {
+                refusal::STORAGE
+            }
         }
         Survey::Refused(n) => n,
     }
@@ -61,11 +79,40 @@ fn answer_code(answer: Answer) -> u64
 pub extern "C" fn nelgrauf_survey(file: &[u8], counts: &mut [u8]) -> u64
     ensures { λ r. ⌜ Surveyed (now (file .entry)) (now (counts .entry)) (now (counts .exit)) r ⌝ }
 {
-    let room = COUNTS_BYTES <= counts.len();
-    if room {
-        tell_counts(survey::survey(file), counts)
+    tell_counts(survey::survey(file), counts)
+}
+
+// 1 to 11, then 13.
+fn unstored_code(file: &[u8]) -> u64
+    ensures { λ r. ⌜ r ≡ unstoredCode (now (file .entry)) ⌝ }
+{
+    match survey::survey(file) {
+        Survey::Accepted(_) => refusal::STORAGE,
+        Survey::Refused(code) => code,
+    }
+}
+
+// What load is refused by where its counts have no room: 12, 1 to 11, then 13.
+fn unlaid_code(file: &[u8], base: VA) -> u64
+    ensures { λ r. ⌜ r ≡ unlaidCode (now (file .entry)) (base .0) ⌝ }
+{
+    let ok = checks::base_ok(base);
+    if ok {
+        unstored_code(file)
     } else {
+        refusal::BASE
+    }
+}
+
+// What patch is refused by where its progress has no room: 14, then 13.
+fn untold_patch_code(fixups: &[u8], position: u64) -> u64
+    ensures { λ r. ⌜ r ≡ untoldPatchCode (now (fixups .entry)) position ⌝ }
+{
+    let ok = position <= patch::fix_count(fixups);
+    if ok {
         refusal::STORAGE
+    } else {
+        refusal::POSITION
     }
 }
 
@@ -104,7 +151,7 @@ pub extern "C" fn nelgrauf_load(
         );
         tell_counts(as_survey(answer), counts)
     } else {
-        refusal::STORAGE
+        unlaid_code(file, VA(base))
     }
 }
 
@@ -129,7 +176,7 @@ pub extern "C" fn nelgrauf_patch(
             progress,
         )
     } else {
-        refusal::STORAGE
+        untold_patch_code(fixups, position)
     }
 }
 

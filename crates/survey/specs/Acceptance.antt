@@ -5,18 +5,14 @@ use mathlib.Core.List.{List, _++_}
 use mathlib.Core.Logic.{_⊎_, inl, inr, ⊎-elim}
 use Prim.Native.Nat.{ℕ, _+_, _*_, _/_, _≤_, _<_, _^_}
 use native.Mathlib.Omega.{arith}
-use lib.Dec.{eqb}
+use lib.Dec.{eqb, ltb}
 use lib.ListN.{length, getD}
-use borrow.Author.Tests.{leb-true, not-false, lt-ltb, eqb-true}
-use Rattle.util.specs.Pick.{pick, and-both}
+use borrow.Author.Tests.{leb-true, not-false, ltb-true, lt-leb, eqb-true}
+use Rattle.util.specs.Pick.{pick, and-left, and-right}
 use Rattle.object.specs.declared.Header.{Header}
-use Rattle.kinds.specs.declared.SymbolKind.{SymbolKind}
-use Rattle.kinds.specs.declared.SymbolKind.the-variants as kinds
-use Rattle.kinds.specs.declared.Place.{Place}
-use Rattle.kinds.specs.declared.Place.the-variants as places
 use Rattle.object.specs.Format.{headerOf}
 use Rattle.object.specs.Section.{loaded, relocationCount}
-use Rattle.object.specs.Symbol.{kind, symbolPlace, isSymbol}
+use Rattle.object.specs.Symbol.{primary, isSymbol}
 use Rattle.object.specs.Relocation.{relocationSymbol, relocationType}
 use Rattle.names.specs.Name.{symbolText}
 use Rattle.layout.specs.Layout.{undefStart, mappedPages}
@@ -26,18 +22,19 @@ use Rattle.limits.specs.Limits.{MAX-PAGES, MAX-EXTERNS, SLOT-SIZE}
 use Rattle.arch.specs.Address.{rva}
 use Rattle.arch.specs.Page.{PAGE-SIZE}
 use Rattle.externs.specs.declared.Found.the-variants.{Index}
-use Rattle.externs.specs.Puts.{outside, putsBy, putsName, puts}
+use Rattle.rules.specs.declared.Rule.the-variants as rules
+use Rattle.codes.specs.Code.{symbolRule}
+use Rattle.codes.specs.Puts.{putsBy, puts}
 use Rattle.externs.specs.Externs.{externs}
 use Rattle.externs.specs.Slot.{slotOf}
-use Rattle.externs.specs.SlotLaws.{Slot}
+use Rattle.externs.specs.SlotLaws.{Slot, slot-inside}
 use Rattle.externs.specs.ExternLaws.{externs-slot}
 use Rattle.fixups.specs.declared.Fix.{Fix}
 use Rattle.targets.specs.declared.Skip.{Skip}
-use Rattle.targets.specs.declared.Target.{Target}
-use Rattle.targets.specs.declared.Target.the-variants as targets
+use Rattle.targets.specs.declared.Target.the-variants as target
 use Rattle.fixups.specs.declared.Outcome.{Outcome}
 use Rattle.fixups.specs.declared.Outcome.the-variants.{Passed, Skipped, Refused, Fixup}
-use Rattle.targets.specs.Target.{slotTarget, slotFor, dataTarget, targetBy, targetOf}
+use Rattle.targets.specs.Target.{slotTarget, ruleTarget, targetOf, targets}
 use Rattle.fixups.specs.Tally.{isPassed, isRefused, isMapped, isOutside, howMany, tallyOf}
 use Rattle.fixups.specs.Lists.{fixList, skipList}
 use Rattle.fixups.specs.ListLaws.{Stands, fixup-listed, skip-listed, every-fixup}
@@ -51,11 +48,6 @@ use Rattle.arch.specs.Machine.{archOf, archBy}
 use Rattle.layout.specs.LayoutLaws.{undef-fits}
 use Rattle.fixups.specs.TargetLaws.{target-near}
 use Rattle.fixups.specs.ValueLaws.{Exact, type-addend}
-
--- data and text outside the sections put their names
-puts-by : (k : SymbolKind) (p : Place) (taken : Bool) → (k ≡ kinds.Data) ⊎ (k ≡ kinds.Text) → outside p ≡ true → putsBy k p taken ≡ true
-unfolding putsBy
-puts-by k p taken d t = ⊎-elim (λ e. rw e t) (λ e. rw e t) d
 
 -- ---- all checks pass, and the counts are the definition's
 module _ (f : List ℕ) (c : Counts) (accepted : surveyOf f ≡ Accepted c) where
@@ -118,7 +110,7 @@ module _ (f : List ℕ) (c : Counts) (accepted : surveyOf f ≡ Accepted c) wher
   -- a loaded section has a home, so none of its relocations is passed
   pub loaded-not-passed : (i k : ℕ) → i < header .sections → loaded f header i ≡ true → isPassed (o i k) ≡ false
   loaded-not-passed i k a t =
-      homed-not-passed _ f header (isSymbol f header) (sectionHome f header) (undefStart f header) (slotOf f header (externs f header)) i k _ (loaded-starts f header i a t)
+      homed-not-passed _ f header (sectionHome f header) (targets f header) i k _ (loaded-starts f header i a t)
 
   -- so each is a fixup of the fix list, or it is skipped and stands in the skip list, with its section from 1, its record from 0 and the reason
   pub record IsFixed (i k : ℕ) : Type 0 where
@@ -157,7 +149,7 @@ module _ (f : List ℕ) (c : Counts) (accepted : surveyOf f ≡ Accepted c) wher
   places-fit i k x a b e =
       let m = fixups-mapped i k x a b e in
       let p = pages-few in
-      let r = fix-from _ f header (isSymbol f header) (sectionHome f header) (undefStart f header) (slotOf f header (externs f header)) i k x e in
+      let r = fix-from _ f header (sectionHome f header) (targets f header) i k x e in
       ⊎-elim (λ n. let z : x .bits / 8 ≡ 4 = rw n in omega arith) (λ n. let z : x .bits / 8 ≡ 8 = rw n in omega arith) (r .resolved .bits)
 
   -- ---- slots
@@ -171,58 +163,46 @@ module _ (f : List ℕ) (c : Counts) (accepted : surveyOf f ≡ Accepted c) wher
     pub inside : index < length (externs f header)
     pub found : slotOf f header (externs f header) name ≡ Index index
 
-  pub puts-a-slot : (i k : ℕ) → i < header .sections → k < count i → puts f header (isSymbol f header) i k ≡ true → SlotAt (symbolText f header (relocationSymbol f header i k))
+  pub puts-a-slot : (i k : ℕ) → i < header .sections → k < count i → puts f header (relocationSymbol f header i k) ≡ true → SlotAt (symbolText f header (relocationSymbol f header i k))
   puts-a-slot i k a b t =
-      let s = externs-slot f header (isSymbol f header) i k a b t in
+      let s = externs-slot f header (puts f header) i k a b t in
       record { index = s .index; inside = s .inside; found = s .found }
 
-  -- data and text that are undefined, common or of unknown place always have their slot for a target
+  -- a symbol that goes among the externs by its kind and place always has its slot for a target: data and text that are undefined, common or of
+  -- unknown place, and common symbols of unknown kind
   pub record SlotTarget (j : ℕ) : Type 0 where
     pub index : ℕ
     pub inside : index < length (externs f header)
-    pub is : targetOf f header (sectionHome f header) (undefStart f header) (slotOf f header (externs f header)) j ≡ targets.Slot (rva (undefStart f header + SLOT-SIZE * index))
+    pub is : targets f header j ≡ target.Slot (rva (undefStart f header + SLOT-SIZE * index))
 
-  outside-slot : (j : ℕ) (p : Place) → outside p ≡ true
-      → dataTarget f header (sectionHome f header) (undefStart f header) (slotOf f header (externs f header)) j p ≡ slotFor f header (undefStart f header) (slotOf f header (externs f header)) j
-  unfolding dataTarget
-  outside-slot j (places.In n) e = absurd (let w : _≡_ {A = ℕ} 0 1 = cc in omega arith)
-  outside-slot j places.Undefined e = refl
-  outside-slot j places.Common e = refl
-  outside-slot j places.Absolute e = absurd (let w : _≡_ {A = ℕ} 0 1 = cc in omega arith)
-  outside-slot j places.Nowhere e = absurd (let w : _≡_ {A = ℕ} 0 1 = cc in omega arith)
-  outside-slot j places.Other e = refl
+  puts-extern : (j : ℕ) → isSymbol f header j ≡ true → symbolRule f header j ≡ rules.Extern → puts f header j ≡ true
+  unfolding puts putsBy
+  puts-extern j own e = rw (own, e)
 
-  slot-of-data : (j : ℕ) → (kind f header j ≡ kinds.Data) ⊎ (kind f header j ≡ kinds.Text) → outside (symbolPlace f header j) ≡ true
-      → targetOf f header (sectionHome f header) (undefStart f header) (slotOf f header (externs f header)) j ≡ slotFor f header (undefStart f header) (slotOf f header (externs f header)) j
-  unfolding targetBy
-  slot-of-data j d t = ⊎-elim (λ e. rw e (outside-slot j (symbolPlace f header j) t)) (λ e. rw e (outside-slot j (symbolPlace f header j) t)) d
+  extern-target : (j e : ℕ) → isSymbol f header j ≡ true → symbolRule f header j ≡ rules.Extern → slotOf f header (externs f header) (symbolText f header j) ≡ Index e
+      → targets f header j ≡ target.Slot (rva (undefStart f header + SLOT-SIZE * e))
+  unfolding targetOf ruleTarget slotTarget isSymbol pick
+  extern-target j e own r q =
+      let l = ltb-true j (header .symbols) (and-left (ltb j (header .symbols)) (primary f header j) own) in
+      let p : primary f header j ≡ true = and-right (ltb j (header .symbols)) (primary f header j) own in
+      rw (lt-leb (header .symbols) j l, p, r, q)
 
-  puts-data : (i k : ℕ) → isSymbol f header (relocationSymbol f header i k) ≡ true
-      → (kind f header (relocationSymbol f header i k) ≡ kinds.Data) ⊎ (kind f header (relocationSymbol f header i k) ≡ kinds.Text)
-      → outside (symbolPlace f header (relocationSymbol f header i k)) ≡ true → puts f header (isSymbol f header) i k ≡ true
-  unfolding puts
-  puts-data i k own d t =
-      and-both (isSymbol f header (relocationSymbol f header i k)) (putsName f header (relocationSymbol f header i k)) own (puts-by (kind f header (relocationSymbol f header i k)) _ _ d t)
+  pub extern-has-slot : (i k : ℕ) → i < header .sections → k < count i → isSymbol f header (relocationSymbol f header i k) ≡ true
+      → symbolRule f header (relocationSymbol f header i k) ≡ rules.Extern → SlotTarget (relocationSymbol f header i k)
+  extern-has-slot i k a b own e =
+      let s = puts-a-slot i k a b (puts-extern (relocationSymbol f header i k) own e) in
+      record { index = s .index; inside = s .inside; is = extern-target (relocationSymbol f header i k) (s .index) own e (s .found) }
 
-  pub data-has-slot : (i k : ℕ) → i < header .sections → k < count i → isSymbol f header (relocationSymbol f header i k) ≡ true
-      → (kind f header (relocationSymbol f header i k) ≡ kinds.Data) ⊎ (kind f header (relocationSymbol f header i k) ≡ kinds.Text)
-      → outside (symbolPlace f header (relocationSymbol f header i k)) ≡ true → SlotTarget (relocationSymbol f header i k)
-  unfolding slotTarget pick
-  data-has-slot i k a b own d t =
-      let s = puts-a-slot i k a b (puts-data i k own d t) in
-      let n : s .index < MAX-EXTERNS = let m = names-few in omega (arith, s .inside) in
-      record {
-        index = s .index;
-        inside = s .inside;
-        is = slot-of-data (relocationSymbol f header i k) d t ∙ rw (s .found, lt-ltb (s .index) MAX-EXTERNS n);
-      }
+  -- no slot is past UNDEF's page
+  slots-few : (name : List ℕ) (e : ℕ) → slotOf f header (externs f header) name ≡ Index e → e < MAX-EXTERNS
+  slots-few name e q = let i = slot-inside f header name (externs f header) e q in let m = names-few in omega arith
 
   -- ---- every fixup of the fix list: its value is exact at every base that load takes, and its bytes are mapped
   -- each fixup that a relocation comes to
   pub fixup-exact : (i k : ℕ) (x : Fix) → i < header .sections → k < count i → o i k ≡ Fixup x → Exact x
   fixup-exact i k x a b e =
-      let r = fix-from (archBy (archOf (header .machine))) f header (isSymbol f header) (sectionHome f header) (undefStart f header) (slotOf f header (externs f header)) i k x e in
-      let t = target-near f header (sectionHome f header) (slotOf f header (externs f header)) (section-most f header) (relocationSymbol f header i k) (x .target) (r .resolved .reaches) in
+      let r = fix-from (archBy (archOf (header .machine))) f header (sectionHome f header) (targets f header) i k x e in
+      let t = target-near f header (sectionHome f header) (slotOf f header (externs f header)) (section-most f header) slots-few (relocationSymbol f header i k) (x .target) (r .resolved .reaches) in
       let u = undef-fits f header pages-few in
       record {
         bits = r .resolved .bits;

@@ -1,4 +1,5 @@
 pub mod Survey
 pub mod Surveying
 pub mod SurveyLaws
+pub mod TableLaws
 pub mod Acceptance

@@ -11,17 +11,16 @@ use Rattle.arch.specs.Machine.{archOf, archBy}
 use Rattle.object.specs.declared.Header.{Header}
 use Rattle.object.specs.Format.{headerOf}
 use Rattle.object.specs.Section.{relocationCount}
-use Rattle.object.specs.Symbol.{isSymbol}
-use Rattle.layout.specs.Layout.{undefStart, mappedPages, tableRecords}
+use Rattle.layout.specs.Layout.{mappedPages, tableRecords}
 use Rattle.homes.specs.Home.{sectionHome}
 use Rattle.homes.specs.Listed.{listedTotal}
 use Rattle.limits.specs.Limits.{MAX-EXTERNS}
 use Rattle.bounds.specs.Bounds.{sizeOk, machineOk, sectionTableOk, symbolTableOk, sectionsOk, relocationTotal}
 use Rattle.good_names.specs.GoodNames.{namesOk}
 use Rattle.checks.specs.Checks.{numbersOk, pagesOk}
-use Rattle.externs.specs.declared.Found.{Found}
 use Rattle.externs.specs.Externs.{externs}
-use Rattle.externs.specs.Slot.{slotOf}
+use Rattle.targets.specs.declared.Target.{Target}
+use Rattle.targets.specs.Target.{targets}
 use Rattle.fixups.specs.declared.Outcome.{Outcome}
 use Rattle.fixups.specs.declared.Tally.{Tally}
 use Rattle.fixups.specs.Outcome.{outcome}
@@ -63,41 +62,41 @@ externChecks n = check (leb n MAX-EXTERNS) EXTERNS ∷ []
 abbrev pub targetChecks : Tally → List Check
 targetChecks t = check (eqb (t .refused) 0) TARGET ∷ check (eqb (t .outside) 0) PLACE ∷ []
 
--- ---- what the relocations come to: `own` says which numbers are symbols', `home` where a section's home starts, `slot` finds a name's slot
-module _ (f : List ℕ) (h : Header) (own : ℕ → Bool) (home : ℕ → Offset) where
-  abbrev pub outcomesBy : (List ℕ → Found) → ℕ → ℕ → Outcome
-  outcomesBy slot = outcome (archBy (archOf (h .machine))) f h own home (undefStart f h) slot
+-- ---- what the relocations come to: `home` says where a section's home starts, `target` what each number of a symbol comes to
+module _ (f : List ℕ) (h : Header) (home : ℕ → Offset) (target : ℕ → Target) where
+  abbrev pub outcomesBy : ℕ → ℕ → Outcome
+  outcomesBy = outcome (archBy (archOf (h .machine))) f h home target
 
-  abbrev pub tallyBy : (List ℕ → Found) → Tally
-  tallyBy slot = tallyOf (mappedPages f h) (outcomesBy slot) (relocationCount f h) (h .sections)
+  abbrev pub tallyBy : Tally
+  tallyBy = tallyOf (mappedPages f h) outcomesBy (relocationCount f h) (h .sections)
 
-  -- the counts, with n extern names and the tally t
-  unfoldable pub countsBy : ℕ → Tally → Counts
-  countsBy n t =
-      record {
-        pages = mappedPages f h;
-        sections = tableRecords f h;
-        symbols = listedTotal f h own home;
-        externs = n;
-        fixups = t .fixups;
-        skips = t .skips;
-        passed = t .passed;
-        «file_sections» = h .sections;
-        «symbol_records» = h .symbols;
-        relocations = relocationTotal f h;
-      }
+-- the counts, with n extern names and the tally t
+unfoldable pub countsBy : List ℕ → Header → (ℕ → Offset) → ℕ → Tally → Counts
+countsBy f h home n t =
+    record {
+      pages = mappedPages f h;
+      sections = tableRecords f h;
+      symbols = listedTotal f h home;
+      externs = n;
+      fixups = t .fixups;
+      skips = t .skips;
+      passed = t .passed;
+      «file_sections» = h .sections;
+      «symbol_records» = h .symbols;
+      relocations = relocationTotal f h;
+    }
 
 module _ (f : List ℕ) (h : Header) where
-  -- what becomes of relocation k of section i, with the file's own symbols, homes and extern names
+  -- what becomes of relocation k of section i, with the file's homes and targets
   abbrev pub outcomes : ℕ → ℕ → Outcome
-  outcomes = outcomesBy f h (isSymbol f h) (sectionHome f h) (slotOf f h (externs f h))
+  outcomes = outcomesBy f h (sectionHome f h) (targets f h)
 
   -- how many of each outcome there are, and the counts that survey answers
   abbrev pub tally : Tally
-  tally = tallyBy f h (isSymbol f h) (sectionHome f h) (slotOf f h (externs f h))
+  tally = tallyBy f h (sectionHome f h) (targets f h)
 
   abbrev pub counts : Counts
-  counts = countsBy f h (isSymbol f h) (sectionHome f h) (length (externs f h)) tally
+  counts = countsBy f h (sectionHome f h) (length (externs f h)) tally
 
   -- 1 to 11 in this order, each over the whole file
   abbrev pub checks : List Check

@@ -1,16 +1,20 @@
 -- What the parts of survey promise and ask.
-use mathlib.Core.Bool.{Bool}
 use mathlib.Core.List.{List, _∷_, _++_}
 use Prim.Native.Nat.{ℕ, _≤_}
-use lib.ListN.{length}
+use lib.ListN.{length, replicate}
+use Rattle.le.specs.Le.{splice}
 use Rattle.arch.specs.declared.Offset.{Offset}
 use Rattle.object.specs.declared.Header.{Header}
-use Rattle.layout.specs.Layout.{mappedPages}
+use Rattle.layout.specs.Layout.{undefStart, mappedPages, startsTo}
+use Rattle.homes.specs.Home.{homesTo, homeIn}
 use Rattle.refusal.specs.Refusal.{PAGES}
 use Rattle.limits.specs.Limits.{MAX-SECTIONS, MAX-SYMBOLS, MAX-PAGES}
 use Rattle.checks.specs.Checks.{pagesOk}
-use Rattle.externs.specs.Bisect.{bisect}
+use Rattle.codes.specs.Code.{codesTo, putsIn}
 use Rattle.externs.specs.Externs.{externsBy}
+use Rattle.externs.specs.Slotted.{slotted}
+use Rattle.targets.specs.declared.Target.{Target}
+use Rattle.targets.specs.Table.{targetIn}
 use Rattle.survey.specs.declared.answer.Survey.{Survey}
 use Rattle.survey.specs.Survey.{check, firstFailed, externChecks, targetChecks, tallyBy, countsBy, answerBy}
 
@@ -20,18 +24,35 @@ pub record Fits (f : List ℕ) (h : Header) : Type 0 where
   pub symbols : h .symbols ≤ MAX-SYMBOLS
   pub pages : mappedPages f h ≤ MAX-PAGES
 
--- the answer by the symbols' own records, homes, and extern names
-module _ (f : List ℕ) (h : Header) (own : ℕ → Bool) (home : ℕ → Offset) where
-  -- with the extern names known, and the image not too large
-  abbrev pub plannedBy : List ℕ → Survey
-  plannedBy slots =
-      answerBy (firstFailed (check (pagesOk f h) PAGES ∷ targetChecks (tallyBy f h own home (bisect f h slots))))
-      (countsBy f h own home (length slots) (tallyBy f h own home (bisect f h slots)))
+-- ---- the answer by homes and targets, with n extern names
+module _ (f : List ℕ) (h : Header) (home : ℕ → Offset) (target : ℕ → Target) (n : ℕ) where
+  -- 10, 11 and the counts
+  abbrev pub targetsAnswer : Survey
+  targetsAnswer = answerBy (firstFailed (targetChecks (tallyBy f h home target))) (countsBy f h home n (tallyBy f h home target))
 
-  abbrev pub answerFor : List ℕ → Survey
-  answerFor slots =
-      answerBy (firstFailed (externChecks (length slots) ++ targetChecks (tallyBy f h own home (bisect f h slots))))
-      (countsBy f h own home (length slots) (tallyBy f h own home (bisect f h slots)))
+  -- behind 8
+  abbrev pub plannedBy : Survey
+  plannedBy = answerBy (firstFailed (check (pagesOk f h) PAGES ∷ targetChecks (tallyBy f h home target))) (countsBy f h home n (tallyBy f h home target))
 
-  abbrev pub answerWith : Survey
-  answerWith = answerFor (externsBy f h own)
+  -- behind 9
+  abbrev pub externsAnswer : Survey
+  externsAnswer = answerBy (firstFailed (externChecks n ++ targetChecks (tallyBy f h home target))) (countsBy f h home n (tallyBy f h home target))
+
+-- by the words that are kept of the sections and of the symbols
+module _ (f : List ℕ) (h : Header) (homes starts codes : List ℕ) where
+  abbrev pub namesIn : List ℕ
+  namesIn = externsBy f h (putsIn codes)
+
+  abbrev pub answerIn : Survey
+  answerIn = externsAnswer f h (homeIn homes) (targetIn homes starts (undefStart f h) (slotted f h namesIn codes)) (length namesIn)
+
+-- those words, filled once
+module _ (f : List ℕ) (h : Header) where
+  abbrev pub homeWords : List ℕ
+  homeWords = splice (replicate MAX-SECTIONS 0) 0 (homesTo f h (h .sections))
+
+  abbrev pub startWords : List ℕ
+  startWords = splice (replicate MAX-SECTIONS 0) 0 (startsTo f h (h .sections))
+
+  abbrev pub codeWords : List ℕ
+  codeWords = splice (replicate MAX-SYMBOLS 0) 0 (codesTo f h (h .symbols))

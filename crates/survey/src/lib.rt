@@ -9,14 +9,12 @@ use fixups::Tally;
 use object::Header;
 ghost use mathlib.Core.Path.{_≡_};
 ghost use Prim.Native.Nat.{_≤_};
-ghost use lib.ListN.{length};
 ghost use Rattle.limits.specs.Limits.{MAX-PAGES};
-ghost use Rattle.object.specs.Symbol.{isOwn, isSymbol};
-ghost use Rattle.layout.specs.Layout.{mappedPages};
-ghost use Rattle.homes.specs.Home.{homeIn, sectionHome};
-ghost use Rattle.externs.specs.Bisect.{bisect};
+ghost use Rattle.layout.specs.Layout.{undefStart, mappedPages};
+ghost use Rattle.homes.specs.Home.{homeIn};
+ghost use Rattle.targets.specs.Table.{targetIn};
 ghost use Rattle.survey.specs.Survey.{firstFailed, recordChecks, targetChecks, tallyBy, countsBy, answerBy, surveyOf};
-ghost use Rattle.survey.specs.Surveying.{Fits, plannedBy, answerWith};
+ghost use Rattle.survey.specs.Surveying.{targetsAnswer, plannedBy, answerIn, homeWords, startWords, codeWords};
 
 // The first of refusals 1 to 8 that applies, or 0.
 pub fn records_code(f: &[u8], h: Header) -> u64
@@ -49,22 +47,22 @@ pub fn records_code(f: &[u8], h: Header) -> u64
     0
 }
 
-fn tally_by(f: &[u8], h: Header, own: &[u8], homes: &[u32], slots: &[u32]) -> Tally
+fn tally_by(f: &[u8], h: Header, homes: &[u32], starts: &[u32], codes: &[u16]) -> Tally
     requires { ⌜ mappedPages (now f) h ≤ MAX-PAGES ⌝ }
-    ensures { λ r. ⌜ r ≡ tallyBy (now (f .entry)) h (isOwn (now (own .entry))) (homeIn (now (homes .entry))) (bisect (now (f .entry)) h (now (slots .entry))) ⌝ }
+    ensures { λ r. ⌜ r ≡ tallyBy (now (f .entry)) h (homeIn (now (homes .entry))) (targetIn (now (homes .entry)) (now (starts .entry)) (undefStart (now (f .entry)) h) (now (codes .entry))) ⌝ }
 {
     let undef = layout::undef_offset(f, h);
     let pages = layout::page_total(f, h);
     let arch = Arch::by_machine(h.machine);
-    fixups::tally_of(arch, f, h, own, homes, undef, slots, pages)
+    fixups::tally_of(arch, f, h, homes, starts, undef, codes, pages)
 }
 
-fn counts_by(f: &[u8], h: Header, own: &[u8], homes: &[u32], n: usize, t: Tally) -> Counts
-    ensures { λ r. ⌜ r ≡ countsBy (now (f .entry)) h (isOwn (now (own .entry))) (homeIn (now (homes .entry))) n t ⌝ }
+fn counts_by(f: &[u8], h: Header, homes: &[u32], n: usize, t: Tally) -> Counts
+    ensures { λ r. ⌜ r ≡ countsBy (now (f .entry)) h (homeIn (now (homes .entry))) n t ⌝ }
 {
     let pages = layout::mapped_pages(f, h);
     let records = layout::table_records(f, h) as u64;
-    let symbols = homes::listed_total(f, h, own, homes) as u64;
+    let symbols = homes::listed_total(f, h, homes) as u64;
     let relocations = bounds::relocation_total(f, h);
     Counts {
         pages: pages,
@@ -97,58 +95,72 @@ fn verdict(t: Tally, c: Counts) -> Survey
     }
 }
 
-// With the extern names known.
-fn survey_targets(f: &[u8], h: Header, own: &[u8], homes: &[u32], slots: &[u32]) -> Survey
+// With n extern names, whose slots are in the codes.
+fn survey_targets(
+    f: &[u8],
+    h: Header,
+    homes: &[u32],
+    starts: &[u32],
+    codes: &[u16],
+    n: usize,
+) -> Survey
     requires { ⌜ mappedPages (now f) h ≤ MAX-PAGES ⌝ }
-    ensures { λ r.
-        ⌜ r ≡ answerBy (firstFailed (targetChecks (tallyBy (now (f .entry)) h (isOwn (now (own .entry))) (homeIn (now (homes .entry))) (bisect (now (f .entry)) h (now (slots .entry))))))
-        (countsBy (now (f .entry)) h (isOwn (now (own .entry))) (homeIn (now (homes .entry))) (length (now (slots .entry))) (tallyBy (now (f .entry)) h (isOwn (now (own .entry))) (homeIn (now (homes .entry))) (bisect (now (f .entry)) h (now (slots .entry))))) ⌝ }
+    ensures { λ r. ⌜ r ≡ targetsAnswer (now (f .entry)) h (homeIn (now (homes .entry))) (targetIn (now (homes .entry)) (now (starts .entry)) (undefStart (now (f .entry)) h) (now (codes .entry))) n ⌝ }
 {
-    let t = tally_by(f, h, own, homes, slots);
-    verdict(t, counts_by(f, h, own, homes, slots.len(), t))
+    let t = tally_by(f, h, homes, starts, codes);
+    verdict(t, counts_by(f, h, homes, n, t))
 }
 
 // The same for any lists, behind refusal 8.
-pub fn survey_planned(f: &[u8], h: Header, own: &[u8], homes: &[u32], slots: &[u32]) -> Survey
-    ensures { λ r. ⌜ r ≡ plannedBy (now (f .entry)) h (isOwn (now (own .entry))) (homeIn (now (homes .entry))) (now (slots .entry)) ⌝ }
+pub fn survey_planned(
+    f: &[u8],
+    h: Header,
+    homes: &[u32],
+    starts: &[u32],
+    codes: &[u16],
+    n: usize,
+) -> Survey
+    ensures { λ r. ⌜ r ≡ plannedBy (now (f .entry)) h (homeIn (now (homes .entry))) (targetIn (now (homes .entry)) (now (starts .entry)) (undefStart (now (f .entry)) h) (now (codes .entry))) n ⌝ }
 {
     if checks::pages_ok(f, h) {
-        survey_targets(f, h, own, homes, slots)
+        survey_targets(f, h, homes, starts, codes, n)
     } else {
         Survey::Refused(refusal::PAGES)
     }
 }
 
 // Refusal 9, and what follows.
-fn survey_externs(f: &[u8], h: Header, own: &[u8], homes: &[u32]) -> Survey
+fn survey_externs(f: &[u8], h: Header, homes: &[u32], starts: &[u32], codes: &mut [u16]) -> Survey
     requires { ⌜ mappedPages (now f) h ≤ MAX-PAGES ⌝ }
-    ensures { λ r. ⌜ r ≡ answerWith (now (f .entry)) h (isOwn (now (own .entry))) (homeIn (now (homes .entry))) ⌝ }
+    ensures { λ r. ⌜ r ≡ answerIn (now (f .entry)) h (now (homes .entry)) (now (starts .entry)) (now (codes .entry)) ⌝ }
 {
     let mut slots = [0u32; limits::EXTERN_ROOM];
-    match externs::collect(f, h, own, &mut slots) {
+    match externs::collect(f, h, codes, &mut slots) {
         Names::TooMany => Survey::Refused(refusal::EXTERNS),
-        Names::Count(n) => survey_targets(f, h, own, homes, le::words(&slots, n)),
+        Names::Count(n) => survey_targets(f, h, homes, starts, codes, n),
     }
 }
 
-// Each section's home, filled once.
-fn survey_homes(f: &[u8], h: Header, own: &[u8]) -> Survey
-    requires { ⌜ Fits (now f) h ⌝ }
-    ensures { λ r. ⌜ r ≡ answerWith (now (f .entry)) h (isOwn (now (own .entry))) (sectionHome (now (f .entry)) h) ⌝ }
+// What each symbol record comes to, found once.
+fn survey_symbols(f: &[u8], h: Header, homes: &[u32], starts: &[u32]) -> Survey
+    requires { ⌜ mappedPages (now f) h ≤ MAX-PAGES ⌝ }
+    ensures { λ r. ⌜ r ≡ answerIn (now (f .entry)) h (now (homes .entry)) (now (starts .entry)) (codeWords (now (f .entry)) h) ⌝ }
+{
+    let mut codes = [0u16; limits::MAX_SYMBOLS];
+    codes::fill_codes(f, h, &mut codes);
+    survey_externs(f, h, homes, starts, &mut codes)
+}
+
+// Each section's home and start, found once.
+fn survey_sections(f: &[u8], h: Header) -> Survey
+    requires { ⌜ mappedPages (now f) h ≤ MAX-PAGES ⌝ }
+    ensures { λ r. ⌜ r ≡ answerIn (now (f .entry)) h (homeWords (now (f .entry)) h) (startWords (now (f .entry)) h) (codeWords (now (f .entry)) h) ⌝ }
 {
     let mut homes = [0u32; limits::MAX_SECTIONS];
     homes::fill_homes(f, h, &mut homes);
-    survey_externs(f, h, own, le::words(&homes, h.sections as usize))
-}
-
-// A mark for each symbol record, filled once.
-fn survey_relocations(f: &[u8], h: Header) -> Survey
-    requires { ⌜ Fits (now f) h ⌝ }
-    ensures { λ r. ⌜ r ≡ answerWith (now (f .entry)) h (isSymbol (now (f .entry)) h) (sectionHome (now (f .entry)) h) ⌝ }
-{
-    let mut own = [0u8; limits::MAX_SYMBOLS];
-    object::fill_primaries(f, h, &mut own);
-    survey_homes(f, h, le::part(&own, 0, h.symbols as usize))
+    let mut starts = [0u32; limits::MAX_SECTIONS];
+    layout::fill_starts(f, h, &mut starts);
+    survey_symbols(f, h, &homes, &starts)
 }
 
 // The counts of a file, or the first refusal that applies.
@@ -158,7 +170,7 @@ pub fn survey(f: &[u8]) -> Survey
     let h = object::read_header(f);
     let code = records_code(f, h);
     if code == 0 {
-        survey_relocations(f, h)
+        survey_sections(f, h)
     } else {
         Survey::Refused(code)
     }

@@ -1,6 +1,6 @@
 -- The symbol table, read back word by word, gives the records of its definition. For every file and every buffer that the table fits.
 use mathlib.Core.Path.{_≡_, refl, ap, _∙_}
-use mathlib.Core.Bool.{Bool, true}
+use mathlib.Core.Bool.{true}
 use mathlib.Core.List.{List}
 use Prim.Native.Nat.{ℕ, _+_, _*_, _%_, _^_, _≤_, _<_}
 use native.Mathlib.Omega.{arith}
@@ -21,45 +21,45 @@ use Rattle.limits.specs.Limits.{SYMBOL-BYTES}
 use Rattle.symbol_table.specs.Symbols.{symbolWords, symbolTable}
 
 -- the listed symbols below j, in file order
-abbrev pub listedTo : List ℕ → Header → (ℕ → Bool) → (ℕ → Offset) → ℕ → List ℕ
-listedTo f h own home j = chosen (listed f h own home) j
+abbrev pub listedTo : List ℕ → Header → (ℕ → Offset) → ℕ → List ℕ
+listedTo f h home j = chosen (listed f h home) j
 
-pub symbols-counted : (f : List ℕ) (h : Header) (own : ℕ → Bool) (home : ℕ → Offset) → length (listedTo f h own home (h .symbols)) ≡ listedTotal f h own home
-symbols-counted f h own home = length-chosen (listed f h own home) (h .symbols)
+pub symbols-counted : (f : List ℕ) (h : Header) (home : ℕ → Offset) → length (listedTo f h home (h .symbols)) ≡ listedTotal f h home
+symbols-counted f h home = length-chosen (listed f h home) (h .symbols)
 
-module _ (f : List ℕ) (h : Header) (base : ℕ) (own : ℕ → Bool) (home : ℕ → Offset) (records : List ℕ) where
+module _ (f : List ℕ) (h : Header) (base : ℕ) (home : ℕ → Offset) (records : List ℕ) where
   length-symbol : (j : ℕ) → length (symbolWords f h base home records j) ≡ 6
   unfolding symbolWords
   length-symbol j = refl
 
-  pub symbol-words : symbolTable f h base own home records ≡ wordBytes (rowWords (symbolWords f h base home records) (listedTo f h own home (h .symbols)))
-  symbol-words = picked-rows (listed f h own home) (symbolWords f h base home records) (h .symbols)
+  pub symbol-words : symbolTable f h base home records ≡ wordBytes (rowWords (symbolWords f h base home records) (listedTo f h home (h .symbols)))
+  symbol-words = picked-rows (listed f h home) (symbolWords f h base home records) (h .symbols)
 
-  pub length-symbols : length (symbolTable f h base own home records) ≡ SYMBOL-BYTES * length (listedTo f h own home (h .symbols))
+  pub length-symbols : length (symbolTable f h base home records) ≡ SYMBOL-BYTES * length (listedTo f h home (h .symbols))
   length-symbols =
-      let l = length-rows (symbolWords f h base home records) 6 length-symbol (listedTo f h own home (h .symbols)) in
-      rw symbol-words (length-words (rowWords (symbolWords f h base home records) (listedTo f h own home (h .symbols))) ∙ (omega arith))
+      let l = length-rows (symbolWords f h base home records) 6 length-symbol (listedTo f h home (h .symbols)) in
+      rw symbol-words (length-words (rowWords (symbolWords f h base home records) (listedTo f h home (h .symbols))) ∙ (omega arith))
 
-  pub symbols-fill : length (symbolTable f h base own home records) ≡ SYMBOL-BYTES * listedTotal f h own home
-  symbols-fill = length-symbols ∙ ap (λ (m : ℕ). SYMBOL-BYTES * m) (symbols-counted f h own home)
+  pub symbols-fill : length (symbolTable f h base home records) ≡ SYMBOL-BYTES * listedTotal f h home
+  symbols-fill = length-symbols ∙ ap (λ (m : ℕ). SYMBOL-BYTES * m) (symbols-counted f h home)
 
-  module _ (b : List ℕ) (r : SYMBOL-BYTES * length (listedTo f h own home (h .symbols)) ≤ length b) (w : ℕ) (q : w < 6) where
+  module _ (b : List ℕ) (r : SYMBOL-BYTES * length (listedTo f h home (h .symbols)) ≤ length b) (w : ℕ) (q : w < 6) where
     -- word w of record k
-    pub symbol-back : (k d : ℕ) → k < length (listedTo f h own home (h .symbols))
-        → get 8 (splice b 0 (symbolTable f h base own home records)) (SYMBOL-BYTES * k + 8 * w)
-        ≡ getD (symbolWords f h base home records (getD (listedTo f h own home (h .symbols)) k d)) w 0 % 2 ^ 64
+    pub symbol-back : (k d : ℕ) → k < length (listedTo f h home (h .symbols))
+        → get 8 (splice b 0 (symbolTable f h base home records)) (SYMBOL-BYTES * k + 8 * w)
+        ≡ getD (symbolWords f h base home records (getD (listedTo f h home (h .symbols)) k d)) w 0 % 2 ^ 64
     symbol-back k d t =
         let e : SYMBOL-BYTES * k + 8 * w ≡ 8 * (6 * k + w) = omega arith in
-        rw (symbol-words, e) (row-back (symbolWords f h base home records) 6 length-symbol (listedTo f h own home (h .symbols)) b k w d (omega arith) t q)
+        rw (symbol-words, e) (row-back (symbolWords f h base home records) 6 length-symbol (listedTo f h home (h .symbols)) b k w d (omega arith) t q)
 
     -- and of the record of symbol j, which stands behind those of the listed symbols before it
-    pub symbol-record : (j : ℕ) → j < h .symbols → listed f h own home j ≡ true
-        → get 8 (splice b 0 (symbolTable f h base own home records)) (SYMBOL-BYTES * countTo (listed f h own home) j + 8 * w)
+    pub symbol-record : (j : ℕ) → j < h .symbols → listed f h home j ≡ true
+        → get 8 (splice b 0 (symbolTable f h base home records)) (SYMBOL-BYTES * countTo (listed f h home) j + 8 * w)
         ≡ getD (symbolWords f h base home records j) w 0 % 2 ^ 64
     symbol-record j n t =
-        symbol-back (countTo (listed f h own home) j) 0
-        (rw (length-chosen (listed f h own home) (h .symbols)) (count-below (listed f h own home) (h .symbols) j n t))
-        ∙ ap (λ (x : ℕ). getD (symbolWords f h base home records x) w 0 % 2 ^ 64) (chosen-at (listed f h own home) (h .symbols) j 0 n t)
+        symbol-back (countTo (listed f h home) j) 0
+        (rw (length-chosen (listed f h home) (h .symbols)) (count-below (listed f h home) (h .symbols) j n t))
+        ∙ ap (λ (x : ℕ). getD (symbolWords f h base home records x) w 0 % 2 ^ 64) (chosen-at (listed f h home) (h .symbols) j 0 n t)
 
 -- ---- a record by the names of its words: what is read in t from `at` on
 pub record SymbolAt (t : List ℕ) (at : ℕ) (f : List ℕ) (h : Header) (base : ℕ) (home : ℕ → Offset) (records : List ℕ) (j : ℕ) : Type 0 where
@@ -70,27 +70,27 @@ pub record SymbolAt (t : List ℕ) (at : ℕ) (f : List ℕ) (h : Header) (base 
   pub number : get 8 t (at + 32) ≡ j % 2 ^ 64
   pub homeRecord : get 8 t (at + 40) ≡ ofPlace (λ i. getD records i 0) 0 (symbolPlace f h j) % 2 ^ 64
 
-pub symbol-read : (f : List ℕ) (h : Header) (base : ℕ) (own : ℕ → Bool) (home : ℕ → Offset) (records b : List ℕ) (j : ℕ) → SYMBOL-BYTES * listedTotal f h own home ≤ length b
-    → j < h .symbols → listed f h own home j ≡ true
-    → SymbolAt (splice b 0 (symbolTable f h base own home records)) (SYMBOL-BYTES * countTo (listed f h own home) j) f h base home records j
+pub symbol-read : (f : List ℕ) (h : Header) (base : ℕ) (home : ℕ → Offset) (records b : List ℕ) (j : ℕ) → SYMBOL-BYTES * listedTotal f h home ≤ length b
+    → j < h .symbols → listed f h home j ≡ true
+    → SymbolAt (splice b 0 (symbolTable f h base home records)) (SYMBOL-BYTES * countTo (listed f h home) j) f h base home records j
 unfolding symbolWords
-symbol-read f h base own home records b j r n t =
-    let room : SYMBOL-BYTES * length (listedTo f h own home (h .symbols)) ≤ length b = rw (symbols-counted f h own home) r in
+symbol-read f h base home records b j r n t =
+    let room : SYMBOL-BYTES * length (listedTo f h home (h .symbols)) ≤ length b = rw (symbols-counted f h home) r in
     record {
-      address = rw add-zero at (symbol-record f h base own home records b room 0 (omega arith) j n t);
-      kindOf = symbol-record f h base own home records b room 1 (omega arith) j n t;
-      nameFrom = symbol-record f h base own home records b room 2 (omega arith) j n t;
-      nameLong = symbol-record f h base own home records b room 3 (omega arith) j n t;
-      number = symbol-record f h base own home records b room 4 (omega arith) j n t;
-      homeRecord = symbol-record f h base own home records b room 5 (omega arith) j n t;
+      address = rw add-zero at (symbol-record f h base home records b room 0 (omega arith) j n t);
+      kindOf = symbol-record f h base home records b room 1 (omega arith) j n t;
+      nameFrom = symbol-record f h base home records b room 2 (omega arith) j n t;
+      nameLong = symbol-record f h base home records b room 3 (omega arith) j n t;
+      number = symbol-record f h base home records b room 4 (omega arith) j n t;
+      homeRecord = symbol-record f h base home records b room 5 (omega arith) j n t;
     }
 
 -- what the questions to the table read is what load wrote
 module _ (f : List ℕ) (h : Header) (base : ℕ) where
   -- the record of symbol j, behind those of the listed symbols before it
-  pub symbol-of-load : (own : ℕ → Bool) (home : ℕ → Offset) (records b : List ℕ) → SYMBOL-BYTES * listedTotal f h own home ≤ length b → (w : ℕ) → w < 6 → (j : ℕ) → j < h .symbols → listed f h own home j ≡ true
-      → wordOf 6 (splice b 0 (symbolTable f h base own home records)) (countTo (listed f h own home) j) w ≡ getD (symbolWords f h base home records j) w 0 % 2 ^ 64
+  pub symbol-of-load : (home : ℕ → Offset) (records b : List ℕ) → SYMBOL-BYTES * listedTotal f h home ≤ length b → (w : ℕ) → w < 6 → (j : ℕ) → j < h .symbols → listed f h home j ≡ true
+      → wordOf 6 (splice b 0 (symbolTable f h base home records)) (countTo (listed f h home) j) w ≡ getD (symbolWords f h base home records j) w 0 % 2 ^ 64
   unfolding wordOf
-  symbol-of-load own home records b r w q j n t =
-      let e : 8 * (6 * countTo (listed f h own home) j + w) ≡ SYMBOL-BYTES * countTo (listed f h own home) j + 8 * w = omega arith in
-      rw e (symbol-record f h base own home records b (rw (symbols-counted f h own home) r) w q j n t)
+  symbol-of-load home records b r w q j n t =
+      let e : 8 * (6 * countTo (listed f h home) j + w) ≡ SYMBOL-BYTES * countTo (listed f h home) j + 8 * w = omega arith in
+      rw e (symbol-record f h base home records b (rw (symbols-counted f h home) r) w q j n t)

@@ -1,6 +1,5 @@
--- The symbol table (01, "Layout, slots and fixups"): the listed symbols in file order. `own` says which numbers are symbols', `home` where a
--- section's home starts, and `records` keeps its table record.
-use mathlib.Core.Bool.{Bool}
+-- The symbol table (01, "Layout, slots and fixups"): the listed symbols in file order. `home` says where a section's home
+-- starts, and `records` keeps its table record.
 use mathlib.Core.List.{List, [], _∷_}
 use Prim.Native.Nat.{ℕ, _+_}
 use lib.ListN.{getD}
@@ -25,5 +24,5 @@ symbolWords f h base home records j =
     ∷ []
 
 -- the table
-abbrev pub symbolTable : List ℕ → Header → ℕ → (ℕ → Bool) → (ℕ → Offset) → List ℕ → List ℕ
-symbolTable f h base own home records = picked (listed f h own home) (symbolWords f h base home records) (h .symbols)
+abbrev pub symbolTable : List ℕ → Header → ℕ → (ℕ → Offset) → List ℕ → List ℕ
+symbolTable f h base home records = picked (listed f h home) (symbolWords f h base home records) (h .symbols)

@@ -1,5 +1,6 @@
 -- The loops of the tables. Assumes nothing.
 use mathlib.Core.Path.{_≡_, refl, sym, ap, _∙_}
+use mathlib.Core.Bool.{Bool, true, false}
 use mathlib.Core.List.{List, [], _∷_, _++_}
 use Prim.Native.Nat.{ℕ, _+_, _*_, _%_, _^_, _≤_}
 use native.Mathlib.Omega.{arith}
@@ -12,8 +13,11 @@ use Rattle.object.specs.declared.Header.{Header}
 use Rattle.object.specs.Section.{loaded, rangeLength, fileStart, fileEnd, permissions}
 use Rattle.names.specs.declared.Name.{Name}
 use Rattle.names.specs.Name.{sectionName, symbolName}
+use Rattle.stops.specs.Stops.{stopsOf}
+use Rattle.stops.specs.Names.{symbolNameBy, sectionNameBy}
+use Rattle.stops.specs.NameLaws.{symbol-name-is, section-name-is}
 use Rattle.words.specs.Words.{wordBytes, nameStart, nameLength, word-low, word-next}
-use Rattle.words.specs.Picked.{picked, Standing, joined, standing-behind, standing-long}
+use Rattle.words.specs.Picked.{picked, Standing, picked-none, picked-more, picked-same, joined, standing-behind, standing-long}
 use Rattle.tables.specs.Sections.{READ, sectionWords, undefWords, sectionTable}
 use Rattle.tables.specs.Externs.{externWords, externTable}
 use Rattle.tables.specs.TableLaws.{length-externs}
@@ -25,12 +29,13 @@ two-low a b ws x y p q =
     let e : y ≡ (a + b) % 2 ^ 64 = omega arith in
     rw (p, e) (word-low a _ ∙ word-next a (a + b) ws)
 
-pub section-put : (f : List ℕ) (h : Header) (base : ℕ) (starts b c : List ℕ) (i k at len from to perm ns nl x y : ℕ) (name : Name)
+pub section-put : (f : List ℕ) (h : Header) (base : ℕ) (starts stops b c : List ℕ) (i k at len from to perm ns nl x y : ℕ) (name : Name)
     → c ≡ splice b k (wordBytes (x ∷ y ∷ from ∷ to ∷ perm ∷ ns ∷ nl ∷ (i + 1) ∷ [])) → x ≡ (base + at) % 2 ^ 64 → y ≡ (x + len) % 2 ^ 64 → at ≡ getD starts i 0 → len ≡ rangeLength f h i
-    → from ≡ fileStart f h i → to ≡ fileEnd f h i → perm ≡ permissions f h i → ns ≡ nameStart name → nl ≡ nameLength name → name ≡ sectionName f h i
+    → from ≡ fileStart f h i → to ≡ fileEnd f h i → perm ≡ permissions f h i → ns ≡ nameStart name → nl ≡ nameLength name → name ≡ sectionNameBy f h stops i → stops ≡ stopsOf f h
     → c ≡ splice b k (wordBytes (sectionWords f h base starts i))
 unfolding sectionWords
-section-put f h base starts b c i k at len from to perm ns nl x y name d lo hi e1 e2 e3 e4 e5 e6 e7 e8 =
+section-put f h base starts stops b c i k at len from to perm ns nl x y name d lo hi e1 e2 e3 e4 e5 e6 e7 e w =
+    let e8 : name ≡ sectionName f h i = e ∙ section-name-is f h stops w i in
     rw (← e1, ← e2, ← e3, ← e4, ← e5, ← e8, ← e6, ← e7)
     (d ∙ ap (splice b k) (two-low (base + at) len (from ∷ to ∷ perm ∷ ns ∷ nl ∷ (i + 1) ∷ []) x y lo hi))
 
@@ -38,9 +43,24 @@ pub undef-put : (base undef : ℕ) (b c : List ℕ) (k x y : ℕ) → c ≡ spli
     → c ≡ splice b k (wordBytes (undefWords base undef))
 undef-put base undef b c k x y d lo hi = d ∙ ap (splice b k) (two-low (base + undef) PAGE-SIZE (0 ∷ 0 ∷ READ ∷ 0 ∷ 0 ∷ 0 ∷ []) x y lo hi)
 
-pub section-long : (f : List ℕ) (h : Header) (base : ℕ) (starts : List ℕ) (i : ℕ) → 8 * length (sectionWords f h base starts i) ≡ SECTION-BYTES
+section-long : (f : List ℕ) (h : Header) (base : ℕ) (starts : List ℕ) (i : ℕ) → 8 * length (sectionWords f h base starts i) ≡ SECTION-BYTES
 unfolding sectionWords
 section-long f h base starts i = refl
+
+-- ---- the loop over the sections
+module _ (f : List ℕ) (h : Header) (base : ℕ) (starts : List ℕ) where
+  abbrev pub Written : List ℕ → List ℕ → ℕ → ℕ → Type 0
+  Written l b n i = Standing SECTION-BYTES (picked (loaded f h) (sectionWords f h base starts) i) l b n i
+
+  pub sections-none : (l : List ℕ) → Written l l 0 0
+  sections-none l = picked-none (loaded f h) (sectionWords f h base starts) SECTION-BYTES l
+
+  module _ (l b : List ℕ) (n i : ℕ) (t : Bool) where
+    pub sections-more : (c : List ℕ) → Written l b n i → t ≡ loaded f h i → t ≡ true → c ≡ splice b (SECTION-BYTES * n) (wordBytes (sectionWords f h base starts i)) → Written l c (n + 1) (i + 1)
+    sections-more c o e y d = picked-more (loaded f h) (sectionWords f h base starts) SECTION-BYTES i n l b t e o (section-long f h base starts i) c y d
+
+    pub sections-same : Written l b n i → t ≡ loaded f h i → t ≡ false → Written l b n (i + 1)
+    sections-same o e y = picked-same (loaded f h) (sectionWords f h base starts) SECTION-BYTES i n l b t e o y
 
 pub sections-end : (f : List ℕ) (h : Header) (base : ℕ) (starts : List ℕ) (undef i n m : ℕ) (l b c : List ℕ) → Standing SECTION-BYTES (picked (loaded f h) (sectionWords f h base starts) i) l b n i → i ≤ m → m ≤ i
     → m ≡ h .sections → c ≡ splice b (SECTION-BYTES * n) (wordBytes (undefWords base undef)) → c ≡ splice l 0 (sectionTable f h base starts undef)
@@ -52,12 +72,15 @@ sections-end f h base starts undef i n m l b c o a k z d =
 pub sections-long : (T R l b c : List ℕ) (i n : ℕ) → Standing SECTION-BYTES T l b n i → c ≡ splice b (SECTION-BYTES * n) R → length c ≡ length l
 sections-long T R l b c i n o d = splice-long b c (SECTION-BYTES * n) R d ∙ standing-long SECTION-BYTES T l b n i o
 
+pub ruleset sections-loop = (sections-none, sections-end, sections-long)
+
 -- ---- externs
-pub extern-put : (f : List ℕ) (h : Header) (base undef : ℕ) (slots b c : List ℕ) (e k j ns nl s x : ℕ) (name : Name) → c ≡ splice b k (wordBytes (x ∷ j ∷ ns ∷ nl ∷ []))
-    → s ≡ (base + undef) % 2 ^ 64 → x ≡ (s + SLOT-SIZE * e) % 2 ^ 64 → j ≡ getD slots e 0 → ns ≡ nameStart name → nl ≡ nameLength name → name ≡ symbolName f h j
+pub extern-put : (f : List ℕ) (h : Header) (base undef : ℕ) (slots stops b c : List ℕ) (e k j ns nl s x : ℕ) (name : Name) → c ≡ splice b k (wordBytes (x ∷ j ∷ ns ∷ nl ∷ []))
+    → s ≡ (base + undef) % 2 ^ 64 → x ≡ (s + SLOT-SIZE * e) % 2 ^ 64 → j ≡ getD slots e 0 → ns ≡ nameStart name → nl ≡ nameLength name → name ≡ symbolNameBy f h stops j → stops ≡ stopsOf f h
     → c ≡ splice b k (wordBytes (externWords f h base undef slots e))
 unfolding externWords
-extern-put f h base undef slots b c e k j ns nl s x name d lo hi e1 e2 e3 e4 =
+extern-put f h base undef slots stops b c e k j ns nl s x name d lo hi e1 e2 e3 q w =
+    let e4 : name ≡ symbolName f h j = q ∙ symbol-name-is f h stops w j in
     let z : x ≡ (base + undef + SLOT-SIZE * e) % 2 ^ 64 = omega arith in
     rw (← e1, ← e4, ← e2, ← e3) (d ∙ ap (splice b k) (rw z (word-low (base + undef + SLOT-SIZE * e) (j ∷ ns ∷ nl ∷ []))))
 

@@ -7,6 +7,7 @@ ghost use mathlib.Core.Path.{_≡_};
 ghost use Prim.Native.Nat.{_*_};
 ghost use Rattle.limits.specs.Limits.{SECTION-BYTES};
 ghost use Rattle.le.specs.Le.{splice};
+ghost use Rattle.stops.specs.Stops.{stopsOf};
 ghost use Rattle.words.specs.Words.{wordBytes};
 ghost use Rattle.tables.specs.Sections.{sectionWords, undefWords, sectionTable};
 
@@ -14,12 +15,22 @@ ghost use Rattle.tables.specs.Sections.{sectionWords, undefWords, sectio
 const READ: u64 = 1;
 
 // Section i's record, at place n of the table.
-fn put_section(f: &[u8], h: Header, base: VA, starts: &[u32], i: u32, n: u32, b: &mut [u8])
+fn put_section(
+    f: &[u8],
+    h: Header,
+    base: VA,
+    starts: &[u32],
+    stops: &[u32],
+    i: u32,
+    n: u32,
+    b: &mut [u8],
+)
+    requires { ⌜ now stops ≡ stopsOf (now f) h ⌝ }
     ensures { λ _. ⌜ now (b .exit) ≡ splice (now (b .entry)) (SECTION-BYTES * n) (wordBytes (sectionWords (now (f .entry)) h (base .0) (now (starts .entry)) i)) ⌝ }
 {
     let start = std::num::wrapping_add_u64(base.0, le::word_at(starts, i as usize) as u64);
     let end = std::num::wrapping_add_u64(start, object::range_length(f, h, i));
-    let name = names::section_name(f, h, i);
+    let name = stops::section_name(f, h, stops, i);
     let ws = [
         start,
         end,
@@ -43,7 +54,16 @@ fn put_undef(base: VA, undef: RVA, n: u32, b: &mut [u8])
 }
 
 // A record for each loaded section, and UNDEF's.
-pub fn write_sections(f: &[u8], h: Header, base: VA, starts: &[u32], undef: RVA, b: &mut [u8])
+fn list_sections(
+    f: &[u8],
+    h: Header,
+    base: VA,
+    starts: &[u32],
+    stops: &[u32],
+    undef: RVA,
+    b: &mut [u8],
+)
+    requires { ⌜ now stops ≡ stopsOf (now f) h ⌝ }
     ensures { λ _. ⌜ now (b .exit) ≡ splice (now (b .entry)) 0 (sectionTable (now (f .entry)) h (base .0) (now (starts .entry)) (undef .0)) ⌝ }
 {
     let m = h.sections as u32;
@@ -51,7 +71,7 @@ pub fn write_sections(f: &[u8], h: Header, base: VA, starts: &[u32], undef: RVA,
     let mut i: u32 = 0;
     while i < m {
         if object::is_loaded(f, h, i) {
-            put_section(f, h, base, starts, i, n, b);
+            put_section(f, h, base, starts, stops, i, n, b);
             n += 1;
             i += 1;
         } else {
@@ -59,4 +79,13 @@ pub fn write_sections(f: &[u8], h: Header, base: VA, starts: &[u32], undef: RVA,
         }
     }
     put_undef(base, undef, n, b);
+}
+
+// The table; long names are found by the noted stops.
+pub fn write_sections(f: &[u8], h: Header, base: VA, starts: &[u32], undef: RVA, b: &mut [u8])
+    ensures { λ _. ⌜ now (b .exit) ≡ splice (now (b .entry)) 0 (sectionTable (now (f .entry)) h (base .0) (now (starts .entry)) (undef .0)) ⌝ }
+{
+    let mut stops = [0u32; stops::BLOCKS];
+    let n = stops::fill_stops(f, h, &mut stops);
+    list_sections(f, h, base, starts, le::words(&stops, n), undef, b);
 }

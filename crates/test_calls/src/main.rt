@@ -7,6 +7,7 @@ mod numbers;
 mod records;
 mod symbols;
 mod texts;
+mod words;
 
 fn main() {
     let mut text = io::large_buffer();

@@ -1,9 +1,12 @@
 // Records, which `object` reads: the header, section i, its relocation r, symbol i.
 use crate::numbers;
 use crate::symbols;
+use crate::words;
 use kinds::RelocationKind;
 use kinds::RelocationType;
 use object::Header;
+ghost use mathlib.Core.Path.{_≡_};
+ghost use Rattle.kinds.specs.Types.{relocationKindNumber};
 
 // The function's place in this list, in whose order the arms below stand.
 pub(crate) fn question(line: &[u8]) -> u8 {
@@ -16,7 +19,8 @@ pub(crate) fn question(line: &[u8]) -> u8 {
           section_table symbol_table symbols string_length \
           address_field raw_size raw_pointer relocation_pointer permissions file_start \
           relocation_records relocation_count relocation_address relocation_symbol \
-          symbol_value listed_value ",
+          symbol_value listed_value \
+          kind_word place_word type_word ",
     )
 }
 
@@ -33,6 +37,12 @@ pub(crate) fn answer(k: u8, f: &[u8], a: u64, b: u64) {
         5 => symbols::classes(f),
         6..=17 => cases::hex(number(k, f, h, i, r)),
         18..=33 => cases::hex(word(k, f, h, i, r) as u64),
+        34 => words::kind(f, h, i),
+        35 => words::place(f, h, i),
+        36 => words::relocation(kind_asked(kinds::type_of(
+            numbers::of_bits(a),
+            (b % 0x10000) as u16,
+        ))),
         _ => {}
     }
 }
@@ -89,7 +99,13 @@ fn asked(t: RelocationType) {
     cases::signed(t.addend);
 }
 
-fn kind_number(kind: RelocationKind) -> u64 {
+fn kind_asked(t: RelocationType) -> RelocationKind {
+    t.kind
+}
+
+fn kind_number(kind: RelocationKind) -> u64
+    ensures { λ r. ⌜ r ≡ relocationKindNumber kind ⌝ }
+{
     match kind {
         RelocationKind::Absolute => 0,
         RelocationKind::ImageOffset => 1,

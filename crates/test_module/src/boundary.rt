@@ -80,7 +80,7 @@ fn at(t: [Section; 17], va: VA) {
 
 // An address: its file offset, its section, whether it is in the image, and probes for 0, 1, 2, 4 and 7.
 fn address(t: [Section; 17], va: VA) {
-    lines::address(b"at ", va.0);
+    cases::address(b"at ", va.0);
     say::number(ask::file_offset(t, va));
     say::number(ask::section_of(t, va));
     say::yes(ask::is_in_image(t, va));
@@ -102,7 +102,7 @@ fn probe(t: [Section; 17], va: VA, permissions: u64) {
 
 // An offset from the base: the same probes.
 fn offset(t: [Section; 17], rva: RVA) {
-    lines::address(b"offset ", rva.0);
+    cases::address(b"offset ", rva.0);
     probe_offset(t, rva, 0);
     probe_offset(t, rva, 1);
     probe_offset(t, rva, 2);
@@ -122,7 +122,7 @@ fn probe_offset(t: [Section; 17], rva: RVA, permissions: u64) {
 
 // A place in the file: its address and its section.
 fn byte(t: [Section; 17], offset: u64) {
-    lines::part(b"byte ", offset);
+    cases::part(b"byte ", offset);
     say::address(ask::virtual_address(t, offset));
     say::number(ask::section_of_offset(t, offset));
     say::end();
@@ -141,7 +141,7 @@ fn own_name(t: [Section; 17], f: &[u8], table: &[u8], i: u16) {
 }
 
 fn named(t: [Section; 17], f: &[u8], name: &[u8]) {
-    lines::text(b"named");
+    cases::text(b"named");
     say::name(name);
     say::number(ask::section_named(t, f, name));
     say::end();

@@ -16,7 +16,7 @@ pub fn symbols(f: &[u8], table: &[u8], n: u16) {
 }
 
 fn symbol(f: &[u8], table: &[u8], k: u32) {
-    lines::text(b"symbol");
+    cases::text(b"symbol");
     match symbols::symbol_entry(table, k as usize) {
         SymbolAnswer::Entry(s) => symbol_at(f, table, s, k),
         SymbolAnswer::Refused(n) => say::refused(n),
@@ -45,7 +45,7 @@ pub fn externs(f: &[u8], table: &[u8], n: u16) {
 }
 
 fn extern_name(f: &[u8], table: &[u8], k: u32) {
-    lines::text(b"extern");
+    cases::text(b"extern");
     match symbols::extern_entry(table, k as usize) {
         ExternAnswer::Entry(e) => extern_at(f, table, e, k),
         ExternAnswer::Refused(n) => say::refused(n),

@@ -18,15 +18,15 @@ const BASE: u64 = 0x20000000;
 fn main() {
     let mut text = [0u8; 131072];
     let n = io::read_full(0, &mut text);
-    cases(le::part(&text, 0, n));
+    each(le::part(&text, 0, n));
 }
 
-fn cases(text: &[u8]) {
+fn each(text: &[u8]) {
     let mut n: u64 = 0;
     let mut at: usize = 0;
     while at < text.len() {
         let length = le::u32_at(text, at) as usize;
-        lines::part(b"case ", n);
+        cases::part(b"case ", n);
         say::end();
         loaded(le::part(text, at + 4, length));
         at = at + 4 + length;
@@ -64,25 +64,25 @@ fn loaded(f: &[u8]) {
 }
 
 fn refused(n: u64) {
-    lines::part(b"refused ", n);
+    cases::part(b"refused ", n);
     say::end();
 }
 
 // The counted parts of the tables.
 fn asked(f: &[u8], c: Counts, sections: &[u8], symbols: &[u8], externs: &[u8]) {
-    let n = lines::few(c.sections);
+    let n = cases::few(c.sections);
     boundary::all(
         f,
         le::part(sections, 0, n as usize * limits::SECTION_BYTES),
         n,
     );
-    let k = lines::few(c.symbols);
+    let k = cases::few(c.symbols);
     lists::symbols(
         f,
         le::part(symbols, 0, k as usize * limits::SYMBOL_BYTES),
         k,
     );
-    let e = lines::few(c.externs);
+    let e = cases::few(c.externs);
     lists::externs(
         f,
         le::part(externs, 0, e as usize * limits::EXTERN_BYTES),
@@ -93,7 +93,7 @@ fn asked(f: &[u8], c: Counts, sections: &[u8], symbols: &[u8], externs: &[u8]) {
 // The pointers, as wide as the object's machine has them.
 fn read(f: &[u8], c: Counts, image: &[u8], marks: &[u8], sections: &[u8]) {
     let arch = Arch::by_machine(object::read_header(f).machine);
-    let n = lines::few(c.sections);
+    let n = cases::few(c.sections);
     let table = le::part(sections, 0, n as usize * limits::SECTION_BYTES);
-    reading::all(image, marks, arch, table, n, lines::few(c.pages));
+    reading::all(image, marks, arch, table, n, cases::few(c.pages));
 }

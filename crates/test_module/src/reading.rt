@@ -34,7 +34,7 @@ fn range(image: &[u8], marks: &[u8], arch: Arch, start: u64, end: u64) {
 // An address and an offset at the offset from the base; the same at the address.
 fn at(image: &[u8], marks: &[u8], arch: Arch, a: u64) {
     let o = std::num::wrapping_sub_u64(a, BASE);
-    lines::address(b"pointer ", a);
+    cases::address(b"pointer ", a);
     say::address(pointers::read_va_at_rva(image, marks, arch, RVA(o)));
     say::offset(pointers::read_rva_at_rva(image, marks, arch, RVA(o)));
     say::address(pointers::read_va_at_va(image, marks, VA(BASE), arch, VA(a)));

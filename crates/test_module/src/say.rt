@@ -5,25 +5,25 @@ use refusal::Number;
 
 // The end of a line.
 pub fn end() {
-    lines::line(b"");
+    cases::end();
 }
 
 // A part of a line: a number, an address or an offset, a refusal.
 fn value(n: u64) {
-    lines::part(b" ", n);
+    cases::part(b" ", n);
 }
 
 pub fn place(n: u64) {
-    lines::address(b" ", n);
+    cases::address(b" ", n);
 }
 
 pub fn refused(n: u64) {
-    lines::part(b" refused ", n);
+    cases::part(b" refused ", n);
 }
 
 pub fn name(s: &[u8]) {
-    lines::text(b" ");
-    lines::text(s);
+    cases::text(b" ");
+    cases::text(s);
 }
 
 // A number, or `refused` and its number.
@@ -50,8 +50,8 @@ pub fn offset(a: OffsetAnswer) {
 
 pub fn yes(b: bool) {
     if b {
-        lines::text(b" yes");
+        cases::text(b" yes");
     } else {
-        lines::text(b" no");
+        cases::text(b" no");
     }
 }

@@ -1,7 +1,6 @@
 // The actions on a load, a line each.
 use crate::say;
 use arch::VA;
-use lines::Row;
 use refusal::Answer;
 use survey::Counts;
 ghost use Prim.Native.Nat.{_≤_};
@@ -75,10 +74,67 @@ fn one(
     skips: &[u8],
 ) {
     match k {
-        TABLES => lines::all(f, base, c, sections, symbols, externs, fixups, skips),
+        TABLES => tables(f, base, c, sections, symbols, externs, fixups, skips),
         PATCH => patch(line, base, c, image, marks, fixups),
         _ => ask(k, line, base, c, image, marks, symbols, externs),
     }
+}
+
+// The lines of load's tables.
+fn tables(
+    f: &[u8],
+    base: u64,
+    c: Counts,
+    sections: &[u8],
+    symbols: &[u8],
+    externs: &[u8],
+    fixups: &[u8],
+    skips: &[u8],
+) {
+    let n = cases::few(listing::line_count(c));
+    let mut k: u16 = 0;
+    while k < n {
+        table_line(
+            f,
+            base,
+            c,
+            sections,
+            symbols,
+            externs,
+            fixups,
+            skips,
+            k as u32,
+        );
+        k += 1;
+    }
+}
+
+// No line of the input is longer than the buffer.
+fn table_line(
+    f: &[u8],
+    base: u64,
+    c: Counts,
+    sections: &[u8],
+    symbols: &[u8],
+    externs: &[u8],
+    fixups: &[u8],
+    skips: &[u8],
+    k: u32,
+) {
+    let mut line = [0u8; 16384];
+    let n = listing::line(
+        f,
+        VA(base),
+        c,
+        sections,
+        symbols,
+        externs,
+        fixups,
+        skips,
+        k,
+        &mut line,
+    );
+    cases::text(le::part(&line, 0, n));
 }
 
 // `patch NUMBER POSITION`
@@ -86,7 +142,7 @@ fn patch(line: &[u8], base: u64, c: Counts, image: &mut [u8], marks: &[u8], fixu
     let list = le::part(
         fixups,
         0,
-        lines::few(c.fixups) as usize * limits::FIXUP_BYTES,
+        cases::few(c.fixups) as usize * limits::FIXUP_BYTES,
     );
     let number = cases::number_at(line, 1);
     let position = cases::number_at(line, 2);
@@ -106,10 +162,10 @@ fn ask(
 ) {
     cases::text(line);
     match k {
-        2..=3 => say::symbols(k == 2, symbols, c.symbols),
-        4..=5 => lines::rows(Row::ExternNumber, line, externs, lines::few(c.externs)),
+        2..=3 => say::rows(k, symbols, cases::few(c.symbols)),
+        4..=5 => say::rows(k, externs, cases::few(c.externs)),
         6 => say::laid(image, c.pages),
-        7 => lines::rows(Row::MarkWord, line, marks, say::words(c.pages)),
+        7 => say::rows(k, marks, say::words(c.pages)),
         _ => read(line, base, say::counted(image, c.pages), marks),
     }
     cases::end();

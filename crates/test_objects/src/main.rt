@@ -58,7 +58,9 @@ fn one(k: u8, line: &[u8], f: &[u8], text: &[u8], next: usize) {
     match k {
         CASE => lend::at(line, cases::number_at(line, 2), f, text, next),
         AT => lend::at(line, cases::number_at(line, 1), f, text, next),
-        LINES => program::top_up(f),
+        LINES => {
+            program::top_up(f);
+        }
         SURVEY => say::survey(line, survey::survey(f)),
         _ => {}
     }

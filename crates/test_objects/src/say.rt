@@ -3,6 +3,7 @@ use load::Load;
 use patch::Patch;
 use survey::Counts;
 use survey::Survey;
+ghost use Prim.Native.Nat.{_<_};
 
 // A line with survey's answer.
 pub(crate) fn survey(line: &[u8], s: Survey) {
@@ -38,27 +39,38 @@ fn counts(c: Counts) {
     cases::decimal(c.relocations);
 }
 
-// The number of each symbol, and its home.
-pub(crate) fn symbols(homes: bool, table: &[u8], n: u64) {
-    let many = lines::few(n);
+// A number for each record of a table, by the action's number.
+pub(crate) fn rows(k: u8, table: &[u8], n: u16) {
     let mut i: u16 = 0;
-    while i < many {
-        cases::decimal(le::u64_at(table, i as usize * 48 + 32));
-        if homes {
-            lines::part(b":", le::u64_at(table, i as usize * 48 + 40));
-        }
+    while i < n {
+        row(k, table, i as usize);
         i += 1;
+    }
+}
+
+// The number of a symbol and its home, or its number alone; the number of an extern name; a word of marks.
+fn row(k: u8, table: &[u8], i: usize)
+    requires { ⌜ i < 65536 ⌝ }
+{
+    match k {
+        2 => {
+            cases::decimal(le::u64_at(table, i * 48 + 32));
+            cases::part(b":", le::u64_at(table, i * 48 + 40));
+        }
+        3 => cases::decimal(le::u64_at(table, i * 48 + 32)),
+        7 => cases::hex(le::u64_at(table, i * 8)),
+        _ => cases::decimal(le::u64_at(table, i * 32 + 8)),
     }
 }
 
 // The words that hold the marks of so many pages.
 pub(crate) fn words(pages: u64) -> u16 {
-    lines::few((lines::few(pages) as u64 + 63) / 64)
+    cases::few((cases::few(pages) as u64 + 63) / 64)
 }
 
 // The image's counted part.
 pub(crate) fn counted(image: &[u8], pages: u64) -> &[u8] {
-    le::part(image, 0, lines::few(pages) as usize * 4096)
+    le::part(image, 0, cases::few(pages) as usize * 4096)
 }
 
 pub(crate) fn laid(image: &[u8], pages: u64) {
@@ -70,8 +82,8 @@ pub(crate) fn patched(line: &[u8], answer: Patch, image: &[u8], pages: u64) {
     match answer {
         Patch::Refused(n) => cases::refused(n),
         Patch::Applied(p) => {
-            lines::part(b" position ", p.position);
-            lines::part(b" done ", if p.done { 1 } else { 0 });
+            cases::part(b" position ", p.position);
+            cases::part(b" done ", if p.done { 1 } else { 0 });
             crc(counted(image, pages));
         }
     }

@@ -7,11 +7,14 @@ pub run-call-spec : {M : Type 1} → statement M
 run-call-spec =
     tie.close
     (tie.spec
-    (λ c. search (needs, call-is))
-    (λ c. search needs)
-    (λ c. search (needs, call-is))
-    (λ c. search (needs, call-is))
     (λ c. search needs)
     (λ c. search needs)
-    (λ c. search (needs, call-is))
+    (λ c. search needs)
+    (λ c. search needs)
+    (λ c. search needs)
+    (λ c. search needs)
+    (λ c. search needs)
+    (λ c. search needs)
+    (λ c. search needs)
+    (λ c. search needs)
     (λ c. search (needs, call-is)))

@@ -1,15 +1,15 @@
 use borrow.Author.Needs.{needs}
-use Rattle.externs.proofs.Laws.{spot-loop, Passed}
+use Rattle.externs.proofs.Laws.{spot-loop, spot-keys, Passed}
 use Prim.Native.Nat.{_-_, _≤_}
 use Rattle.externs.specs.Held.{held}
 use Rattle.externs.proofs.find.Statement.{statement}
 use Rattle.externs.proofs.find.Tie as tie
 
 abbrev Inv-loop : tie.InvT-loop
-Inv-loop f h slots n j name p₀ p = (p ≤ n) × Passed f h j (held n slots) p
+Inv-loop f h slots keys n j key name p₀ p = (p ≤ n) × Passed f h j (held n slots) p
 
 abbrev μ-loop : tie.MeasureT-loop
-μ-loop f h slots n j name p₀ p = n - p
+μ-loop f h slots keys n j key name p₀ p = n - p
 
 pub find-spec : {M : Type 1} → statement M
 find-spec =
@@ -17,17 +17,22 @@ find-spec =
     (tie.spec
     Inv-loop
     μ-loop
-    (λ c. search (needs, spot-loop))
-    (λ c. search (needs, spot-loop))
-    (λ c. search (needs, spot-loop))
-    (λ c. search (needs, spot-loop))
-    (λ c. search (needs, spot-loop))
-    (λ c. search (needs, spot-loop))
-    (λ c. search (needs, spot-loop))
-    (λ c. search (needs, spot-loop))
-    (λ c. search (needs, spot-loop))
-    (λ c. search (needs, spot-loop))
-    (λ c. search (needs, spot-loop))
-    (λ c. search (needs, spot-loop))
-    (λ c. search (needs, spot-loop))
-    (λ c. search (needs, spot-loop)))
+    (λ c. search (needs, spot-loop, spot-keys))
+    (λ c. search (needs, spot-loop, spot-keys))
+    (λ c. search (needs, spot-loop, spot-keys))
+    (λ c. search (needs, spot-loop, spot-keys))
+    (λ c. search (needs, spot-loop, spot-keys))
+    (λ c. search (needs, spot-loop, spot-keys))
+    (λ c. search (needs, spot-loop, spot-keys))
+    (λ c. search (needs, spot-loop, spot-keys))
+    (λ c. search (needs, spot-loop, spot-keys))
+    (λ c. search (needs, spot-loop, spot-keys))
+    (λ c. search (needs, spot-loop, spot-keys))
+    (λ c. search (needs, spot-loop, spot-keys))
+    (λ c. search (needs, spot-loop, spot-keys))
+    (λ c. search (needs, spot-loop, spot-keys))
+    (λ c. search (needs, spot-loop, spot-keys))
+    (λ c. search (needs, spot-loop, spot-keys))
+    (λ c. search (needs, spot-loop, spot-keys))
+    (λ c. search (needs, spot-loop, spot-keys))
+    (λ c. search (needs, spot-loop, spot-keys)))

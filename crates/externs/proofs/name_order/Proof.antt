@@ -7,6 +7,6 @@ pub name-order-spec : {M : Type 1} → statement M
 name-order-spec =
     tie.close
     (tie.spec
-    (λ c. search needs)
-    (λ c. search needs)
+    (λ c. search (needs, order-by))
+    (λ c. search (needs, order-by))
     (λ c. search (needs, order-by)))

@@ -1,5 +1,5 @@
 use borrow.Author.Needs.{needs}
-use Rattle.good_names.proofs.Names.{ways}
+use Rattle.good_names.proofs.Laws.{section-good}
 use Rattle.good_names.proofs.section_ok.Statement.{statement}
 use Rattle.good_names.proofs.section_ok.Tie as tie
 
@@ -7,11 +7,6 @@ pub section-ok-spec : {M : Type 1} → statement M
 section-ok-spec =
     tie.close
     (tie.spec
-    (λ c. search needs)
-    (λ c. search needs)
-    (λ c. search needs)
-    (λ c. search needs)
-    (λ c. search needs)
-    (λ c. search needs)
-    (λ c. search (needs, ways))
-    (λ c. search (needs, ways)))
+    (λ c. search (needs, section-good))
+    (λ c. search (needs, section-good))
+    (λ c. search (needs, section-good)))

@@ -8,10 +8,10 @@ use Rattle.good_names.proofs.sections_ok.Statement.{statement}
 use Rattle.good_names.proofs.sections_ok.Tie as tie
 
 abbrev Inv-loop : tie.InvT-loop
-Inv-loop f h t stops blocks n i₀ i = (i ≤ n) × (allTo (sectionNameOk f h) i ≡ true)
+Inv-loop f h stops n i₀ i = (i ≤ n) × (allTo (sectionNameOk f h) i ≡ true)
 
 abbrev μ-loop : tie.MeasureT-loop
-μ-loop f h t stops blocks n i₀ i = n - i
+μ-loop f h stops n i₀ i = n - i
 
 pub sections-ok-spec : {M : Type 1} → statement M
 sections-ok-spec =

@@ -11,10 +11,10 @@ use Rattle.good_names.proofs.symbols_ok.Statement.{statement}
 use Rattle.good_names.proofs.symbols_ok.Tie as tie
 
 abbrev Inv-loop : tie.InvT-loop
-Inv-loop f h t stops blocks n left₀ j₀ left j = (j ≤ n) × (left ≡ auxiliariesLeft f h j) × (allTo (okAt nameOk f h) j ≡ true)
+Inv-loop f h stops n left₀ j₀ left j = (j ≤ n) × (left ≡ auxiliariesLeft f h j) × (allTo (okAt nameOk f h) j ≡ true)
 
 abbrev μ-loop : tie.MeasureT-loop
-μ-loop f h t stops blocks n left₀ j₀ left j = n - j
+μ-loop f h stops n left₀ j₀ left j = n - j
 
 pub symbols-ok-spec : {M : Type 1} → statement M
 symbols-ok-spec =

@@ -14,4 +14,5 @@ plan-names-spec =
     (λ c. search needs)
     (λ c. search needs)
     (λ c. (search (needs, naming), search needs))
+    (λ c. search needs)
     (λ c. (search (needs, naming), search needs)))

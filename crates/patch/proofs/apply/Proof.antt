@@ -17,5 +17,4 @@ apply-spec =
     (λ c. search (needs, apply-ways))
     (λ c. search (needs, apply-ways))
     (λ c. search (needs, apply-ways))
-    (λ c. search (needs, apply-ways))
     (λ c. search (needs, apply-ways)))

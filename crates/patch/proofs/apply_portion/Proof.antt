@@ -20,7 +20,7 @@ apply-portion-spec =
     μ-loop
     (λ c. search (needs, from-loop))
     (λ c. search (needs, from-loop))
-    (λ c. search (needs, from-loop))
+    (λ c κs. (search needs, search (needs, from-loop)))
     (λ c. search (needs, from-loop))
     (λ c. search (needs, from-loop))
     (λ c. search (needs, from-loop))

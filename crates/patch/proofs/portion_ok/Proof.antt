@@ -1,29 +1,15 @@
 use borrow.Author.Needs.{needs}
-use Rattle.util.specs.Prefix.{all-loop, allTo}
-use Prim.Native.Nat.{_+_, _-_, _≤_}
-use mathlib.Core.Path.{_≡_}
-use mathlib.Core.Bool.{true}
-use Rattle.patch.specs.Fixes.{fixOk}
+use Rattle.patch.proofs.Laws.{quick-ways}
 use Rattle.patch.proofs.portion_ok.Statement.{statement}
 use Rattle.patch.proofs.portion_ok.Tie as tie
-
-abbrev Inv-loop : tie.InvT-loop
-Inv-loop size marks base fixes p n i₀ i = (i ≤ n) × (allTo (λ k. fixOk size marks (base .0) fixes (p + k)) i ≡ true)
-
-abbrev μ-loop : tie.MeasureT-loop
-μ-loop size marks base fixes p n i₀ i = n - i
 
 pub portion-ok-spec : {M : Type 1} → statement M
 portion-ok-spec =
     tie.close
     (tie.spec
-    Inv-loop
-    μ-loop
-    (λ c. search (needs, all-loop))
-    (λ c. search (needs, all-loop))
-    (λ c. search (needs, all-loop))
-    (λ c. search (needs, all-loop))
-    (λ c. search (needs, all-loop))
-    (λ c. search (needs, all-loop))
-    (λ c. search (needs, all-loop))
-    (λ c. search (needs, all-loop)))
+    (λ c. search needs)
+    (λ c. search needs)
+    (λ c. search (needs, quick-ways))
+    (λ c. search (needs, quick-ways))
+    (λ c. search needs)
+    (λ c. search needs))

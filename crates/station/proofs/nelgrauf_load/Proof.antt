@@ -1,5 +1,5 @@
 use borrow.Author.Needs.{needs}
-use Rattle.station.proofs.Laws.{load-told, both-short}
+use Rattle.station.proofs.Laws.{load-told, load-short}
 use Rattle.station.proofs.nelgrauf_load.Statement.{statement}
 use Rattle.station.proofs.nelgrauf_load.Tie as tie
 
@@ -18,5 +18,6 @@ nelgrauf-load-spec =
     (λ c. search needs)
     (λ c. search needs)
     (λ c. search needs)
-    (λ c. search (needs, load-told, both-short))
-    (λ c. search (needs, load-told, both-short)))
+    (λ c. search needs)
+    (λ c. search (needs, load-told))
+    (λ c. search (needs, load-short)))

@@ -1,5 +1,5 @@
 use borrow.Author.Needs.{needs}
-use Rattle.station.proofs.Laws.{survey-told, told-short}
+use Rattle.station.proofs.Laws.{survey-told}
 use Rattle.station.proofs.nelgrauf_survey.Statement.{statement}
 use Rattle.station.proofs.nelgrauf_survey.Tie as tie
 
@@ -7,8 +7,7 @@ pub nelgrauf-survey-spec : {M : Type 1} → statement M
 nelgrauf-survey-spec =
     tie.close
     (tie.spec
-    (λ c. search (needs, survey-told, told-short))
-    (λ c. search (needs, survey-told, told-short))
-    (λ c. search (needs, survey-told, told-short))
-    (λ c. search (needs, survey-told, told-short))
-    (λ c. search (needs, survey-told, told-short)))
+    (λ c. search needs)
+    (λ c. search needs)
+    (λ c. search (needs, survey-told))
+    (λ c. search (needs, survey-told)))

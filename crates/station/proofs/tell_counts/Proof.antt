@@ -7,9 +7,10 @@ pub tell-counts-spec : {M : Type 1} → statement M
 tell-counts-spec =
     tie.close
     (tie.spec
-    (λ c. search (needs, counting))
-    (λ c. search (needs, counting))
-    (λ c. search (needs, counting))
+    (λ c. search needs)
+    (λ c. search needs)
+    (λ c. search needs)
+    (λ c. search needs)
     (λ c. search (needs, counting))
     (λ c. search (needs, counting))
     (λ c. search (needs, counting)))

@@ -7,12 +7,12 @@ pub counts-by-spec : {M : Type 1} → statement M
 counts-by-spec =
     tie.close
     (tie.spec
-    (λ c. search needs)
-    (λ c. search needs)
-    (λ c. search needs)
-    (λ c. search needs)
-    (λ c. search needs)
-    (λ c. search needs)
-    (λ c. search needs)
-    (λ c. search needs)
+    (λ c. search (needs, counts-are))
+    (λ c. search (needs, counts-are))
+    (λ c. search (needs, counts-are))
+    (λ c. search (needs, counts-are))
+    (λ c. search (needs, counts-are))
+    (λ c. search (needs, counts-are))
+    (λ c. search (needs, counts-are))
+    (λ c. search (needs, counts-are))
     (λ c. search (needs, counts-are)))

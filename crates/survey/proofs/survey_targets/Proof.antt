@@ -7,7 +7,7 @@ pub survey-targets-spec : {M : Type 1} → statement M
 survey-targets-spec =
     tie.close
     (tie.spec
-    (λ c. search needs)
-    (λ c. search needs)
-    (λ c. search needs)
+    (λ c. search (needs, targets-by))
+    (λ c. search (needs, targets-by))
+    (λ c. search (needs, targets-by))
     (λ c. search (needs, targets-by)))

@@ -7,11 +7,9 @@ pub at-home-spec : {M : Type 1} → statement M
 at-home-spec =
     tie.close
     (tie.spec
-    (λ c. search needs)
-    (λ c. search needs)
-    (λ c. search needs)
-    (λ c. search needs)
-    (λ c. search needs)
-    (λ c. search needs)
-    (λ c. search needs)
+    (λ c. search (needs, outcome-ways))
+    (λ c. search (needs, outcome-ways))
+    (λ c. search (needs, outcome-ways))
+    (λ c. search (needs, outcome-ways))
+    (λ c. search (needs, outcome-ways))
     (λ c. search (needs, outcome-ways)))

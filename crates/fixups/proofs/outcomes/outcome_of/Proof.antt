@@ -7,9 +7,8 @@ pub outcome-of-spec : {M : Type 1} → statement M
 outcome-of-spec =
     tie.close
     (tie.spec
-    (λ c. search needs)
-    (λ c. search needs)
     (λ c. search (needs, outcome-ways))
-    (λ c. search needs)
+    (λ c. search (needs, outcome-ways))
+    (λ c. search (needs, outcome-ways))
     (λ c. search (needs, outcome-ways))
     (λ c. search (needs, outcome-ways)))

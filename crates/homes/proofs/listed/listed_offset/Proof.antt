@@ -1,5 +1,5 @@
 use borrow.Author.Needs.{needs}
-use Rattle.homes.proofs.Laws.{listings}
+use Rattle.homes.proofs.Laws.{offset-is}
 use Rattle.homes.proofs.listed.listed_offset.Statement.{statement}
 use Rattle.homes.proofs.listed.listed_offset.Tie as tie
 
@@ -11,4 +11,4 @@ listed-offset-spec =
     (λ c. search needs)
     (λ c. search needs)
     (λ c. search needs)
-    (λ c. (search (needs, listings), search needs)))
+    (λ c. (search (needs, offset-is), search needs)))

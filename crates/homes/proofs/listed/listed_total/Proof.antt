@@ -3,17 +3,17 @@ use Rattle.homes.proofs.Laws.{total-loop}
 use Prim.Native.Nat.{_-_, _≤_}
 use mathlib.Core.Path.{_≡_}
 use Rattle.util.specs.Prefix.{countTo}
-use Rattle.object.specs.Symbol.{isOwn}
+use Rattle.object.specs.Symbol.{auxiliariesLeft}
 use Rattle.homes.specs.Home.{homeIn}
 use Rattle.homes.specs.Listed.{listed}
 use Rattle.homes.proofs.listed.listed_total.Statement.{statement}
 use Rattle.homes.proofs.listed.listed_total.Tie as tie
 
 abbrev Inv-loop : tie.InvT-loop
-Inv-loop f h own homes n count₀ j₀ count j = (j ≤ n) × (count ≤ j) × (count ≡ countTo (listed f h (isOwn own) (homeIn homes)) j)
+Inv-loop f h homes n count₀ left₀ j₀ count left j = (j ≤ n) × (count ≤ j) × (left ≡ auxiliariesLeft f h j) × (count ≡ countTo (listed f h (homeIn homes)) j)
 
 abbrev μ-loop : tie.MeasureT-loop
-μ-loop f h own homes n count₀ j₀ count j = n - j
+μ-loop f h homes n count₀ left₀ j₀ count left j = n - j
 
 pub listed-total-spec : {M : Type 1} → statement M
 listed-total-spec =
@@ -21,6 +21,8 @@ listed-total-spec =
     (tie.spec
     Inv-loop
     μ-loop
+    (λ c. search (needs, total-loop))
+    (λ c. search (needs, total-loop))
     (λ c. search (needs, total-loop))
     (λ c. search (needs, total-loop))
     (λ c. search (needs, total-loop))

@@ -7,15 +7,11 @@ pub type-32-spec : {M : Type 1} → statement M
 type-32-spec =
     tie.close
     (tie.spec
-    (λ c. search needs)
-    (λ c. search needs)
-    (λ c. search needs)
-    (λ c. search needs)
-    (λ c. search needs)
-    (λ c. search needs)
-    (λ c. search needs)
-    (λ c. search needs)
-    (λ c. search needs)
-    (λ c. search needs)
+    (λ c. search (needs, row32, past32))
+    (λ c. search (needs, row32, past32))
+    (λ c. search (needs, row32, past32))
+    (λ c. search (needs, row32, past32))
+    (λ c. search (needs, row32, past32))
+    (λ c. search (needs, row32, past32))
     (λ c. search (needs, row32, past32))
     (λ c. search (needs, row32, past32)))

@@ -7,15 +7,11 @@ pub type-64-spec : {M : Type 1} → statement M
 type-64-spec =
     tie.close
     (tie.spec
-    (λ c. search needs)
-    (λ c. search needs)
-    (λ c. search needs)
-    (λ c. search needs)
-    (λ c. search needs)
-    (λ c. search needs)
-    (λ c. search needs)
-    (λ c. search needs)
-    (λ c. search needs)
-    (λ c. search needs)
+    (λ c. search (needs, row64, past64))
+    (λ c. search (needs, row64, past64))
+    (λ c. search (needs, row64, past64))
+    (λ c. search (needs, row64, past64))
+    (λ c. search (needs, row64, past64))
+    (λ c. search (needs, row64, past64))
     (λ c. search (needs, row64, past64))
     (λ c. search (needs, row64, past64)))

@@ -1,4 +1,5 @@
 use borrow.Author.Needs.{needs}
+use Rattle.object.proofs.Laws.{symbol-ways}
 use Rattle.object.proofs.symbols.symbol_kind.Statement.{statement}
 use Rattle.object.proofs.symbols.symbol_kind.Tie as tie
 
@@ -6,9 +7,6 @@ pub symbol-kind-spec : {M : Type 1} → statement M
 symbol-kind-spec =
     tie.close
     (tie.spec
-    (λ c. search needs)
-    (λ c. search needs)
-    (λ c. search needs)
-    (λ c. search needs)
-    (λ c. search needs)
-    (λ c. rw (c .kind-by .ensures, c .before .auxiliaries .ensures, c .before .before .symbol-value .ensures, c .before .before .before .symbol-type .ensures, c .before .before .before .before .symbol-class .ensures)))
+    (λ c. search (needs, symbol-ways))
+    (λ c. search (needs, symbol-ways))
+    (λ c. search (needs, symbol-ways)))

@@ -1,4 +1,5 @@
 use borrow.Author.Needs.{needs}
+use Rattle.object.proofs.Laws.{symbol-ways}
 use Rattle.object.proofs.symbols.symbol_place.Statement.{statement}
 use Rattle.object.proofs.symbols.symbol_place.Tie as tie
 
@@ -6,8 +7,6 @@ pub symbol-place-spec : {M : Type 1} → statement M
 symbol-place-spec =
     tie.close
     (tie.spec
-    (λ c. search needs)
-    (λ c. search needs)
-    (λ c. search needs)
-    (λ c. search needs)
-    (λ c. rw (c .place-by .ensures, c .before .symbol-value .ensures, c .before .before .symbol-class .ensures, c .before .before .before .section-number .ensures)))
+    (λ c. search (needs, symbol-ways))
+    (λ c. search (needs, symbol-ways))
+    (λ c. search (needs, symbol-ways)))

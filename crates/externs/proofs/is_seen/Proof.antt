@@ -1,0 +1,15 @@
+use borrow.Author.Needs.{needs}
+use Rattle.externs.proofs.Laws.{seen-cell}
+use Rattle.externs.proofs.is_seen.Statement.{statement}
+use Rattle.externs.proofs.is_seen.Tie as tie
+
+pub is-seen-spec : {M : Type 1} → statement M
+is-seen-spec =
+    tie.close
+    (tie.spec
+    (λ c. search (needs, seen-cell))
+    (λ c. search (needs, seen-cell))
+    (λ c. search (needs, seen-cell))
+    (λ c. search (needs, seen-cell))
+    (λ c. search (needs, seen-cell))
+    (λ c. search (needs, seen-cell)))

@@ -1,0 +1,45 @@
+-- Beside the list of externs a small table of symbols whose names are in it, which need no second insertion: what the parts of `collect` promise of it.
+use mathlib.Core.Path.{_≡_}
+use mathlib.Core.Bool.{Bool}
+use mathlib.Core.List.{List, [], _∷_}
+use Prim.Native.Nat.{ℕ, suc, _+_, _%_}
+use lib.Dec.{eqb, ltb}
+use lib.ListN.{getD}
+use Rattle.util.specs.Pick.{pick}
+use Rattle.le.specs.Le.{splice}
+use Rattle.object.specs.declared.Header.{Header}
+use Rattle.externs.specs.declared.Names.{Names}
+use Rattle.externs.specs.declared.Names.the-variants.{TooMany, Count}
+use Rattle.externs.specs.Held.{held}
+use Rattle.externs.specs.Keys.{InStep}
+use Rattle.externs.specs.Inserting.{Rising, Has}
+
+-- the cells of the table, and the symbols below which a number, counted from 1, fits a cell
+abbrev pub SEEN : ℕ
+SEEN = 1024
+
+abbrev pub NOTED : ℕ
+NOTED = 0xFFFF
+
+-- the cell of symbol j has its number
+abbrev pub isSeen : List ℕ → ℕ → Bool
+isSeen seen j = eqb (getD seen (j % SEEN) 0) (j + 1)
+
+-- the table with symbol j in its cell, if it fits
+unfoldable pub noted : List ℕ → ℕ → List ℕ
+noted seen j = pick (ltb j NOTED) (splice seen (j % SEEN) ((j + 1) ∷ [])) seen
+
+-- the names of the table's symbols are in the list
+unfoldable pub Seen : List ℕ → Header → List ℕ → List ℕ → Type 0
+Seen f h seen xs = (i j : ℕ) → getD seen i 0 ≡ suc j → Has f h j xs
+
+-- the first n symbols are sorted by name, with their keys, and the table's are among them
+pub record Kept (f : List ℕ) (h : Header) (slots keys seen : List ℕ) (n : ℕ) : Type 0 where
+  pub step : InStep f h slots keys n
+  pub rising : Rising f h (held n slots)
+  pub known : Seen f h seen (held n slots)
+
+-- as many as the answer says
+unfoldable pub KeptFor : List ℕ → Header → List ℕ → List ℕ → List ℕ → Names → Type 0
+KeptFor f h slots keys seen TooMany = Unit {0}
+KeptFor f h slots keys seen (Count n) = Kept f h slots keys seen n

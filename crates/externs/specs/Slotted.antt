@@ -1,0 +1,43 @@
+-- The codes of the symbols (crate `codes`) once the extern names are known: where a slot is looked for, which it is.
+use mathlib.Core.Bool.{Bool, _||_}
+use mathlib.Core.List.{List}
+use Prim.Native.Nat.{ℕ, _+_, _%_}
+use lib.Dec.{eqb, leb}
+use lib.ListN.{length, getD}
+use Rattle.util.specs.Pick.{pick}
+use Rattle.util.specs.Prefix.{listTo}
+use Rattle.le.specs.Le.{splice}
+use Rattle.limits.specs.Limits.{MAX-EXTERNS}
+use Rattle.object.specs.declared.Header.{Header}
+use Rattle.names.specs.Name.{symbolText}
+use Rattle.codes.specs.Code.{SLOT, EXTERN, NO-SLOT, SPAN, SLOTS}
+use Rattle.externs.specs.declared.Found.{Found}
+use Rattle.externs.specs.declared.Found.the-variants.{Index, Nothing}
+use Rattle.externs.specs.Slot.{slotOf}
+
+-- the code of a slot
+unfoldable pub foundCode : Found → ℕ
+foundCode (Index e) = SLOTS + e % SPAN
+foundCode Nothing = NO-SLOT
+
+-- a symbol with this code takes the slot of its name
+abbrev pub takesSlot : ℕ → Bool
+takesSlot c = eqb c SLOT || eqb c EXTERN
+
+unfoldable pub slottedCode : ℕ → Found → ℕ
+slottedCode c found = pick (takesSlot c) (foundCode found) c
+
+-- symbol j's code, those of the symbols below n, and all; ys are the extern names
+module _ (f : List ℕ) (h : Header) (ys codes : List ℕ) where
+  unfoldable pub slottedAt : ℕ → ℕ
+  slottedAt j = slottedCode (getD codes j 0) (slotOf f h ys (symbolText f h j))
+
+  abbrev pub slottedTo : ℕ → List ℕ
+  slottedTo n = listTo slottedAt n
+
+  abbrev pub slotted : List ℕ
+  slotted = splice codes 0 (slottedTo (h .symbols))
+
+-- where there are too many names nothing is put
+unfoldable pub codesAfter : List ℕ → Header → List ℕ → List ℕ → List ℕ
+codesAfter f h codes ys = pick (leb (length ys) MAX-EXTERNS) (slotted f h ys codes) codes

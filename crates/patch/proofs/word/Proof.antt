@@ -1,0 +1,15 @@
+use borrow.Author.Needs.{needs}
+use Rattle.patch.proofs.Laws.{part-read}
+use Rattle.patch.proofs.word.Statement.{statement}
+use Rattle.patch.proofs.word.Tie as tie
+
+pub word-spec : {M : Type 1} → statement M
+word-spec =
+    tie.close
+    (tie.spec
+    (λ c. search needs)
+    (λ c. search needs)
+    (λ c. search needs)
+    (λ c. search needs)
+    (λ c. search needs)
+    (λ c. search (needs, part-read)))

@@ -1,0 +1,169 @@
+-- The ways through the code. Assumes nothing.
+use mathlib.Core.Path.{_≡_, sym, _∙_}
+use mathlib.Core.Bool.{Bool, true, false, _&&_, _||_, not}
+use mathlib.Core.List.{List, [], _∷_}
+use mathlib.Core.Logic.{⊎-elim}
+use Prim.Native.Nat.{ℕ, suc, _+_, _-_, _*_, _/_, _%_, _≤_, _<_, _^_, min}
+use native.Mathlib.Omega.{arith}
+use borrow.Author.Tests.{lt-ltb, le-ltb, ltb-true, eqb-true, not-true, not-false}
+use lib.ListN.{length, getD}
+use lib.Dec.{ltb, leb, eqb}
+use Rattle.util.specs.Pick.{pick, yes-no, le-or-lt, and-left, and-right}
+use Rattle.le.specs.Le.{get, part, splice, splice-long, part-most, fill-none, fill-again, fill-end}
+use Rattle.object.specs.declared.Header.{Header}
+use Rattle.object.specs.Format.{LENGTH-SIZE, stringTable, stringLength, sectionHeaderAt, symbolRecordAt}
+use Rattle.names.specs.declared.Name.{Name}
+use Rattle.names.specs.declared.Name.the-variants.{Good, Bad}
+use Rattle.names.specs.declared.Digits.{Digits}
+use Rattle.names.specs.declared.Digits.the-variants as digits
+use Rattle.names.specs.Bytes.{visible}
+use Rattle.names.specs.Name.{SLASH, slashOffset, sectionName, symbolName}
+use Rattle.stops.specs.Stops.{strings, stopIn, stop, BLOCK, blocksOf, stopWords, stopCount, stopsOf, stopBehind, stopBy}
+use Rattle.stops.specs.StopLaws.{past, stop-least, stop-low, stop-same}
+use Rattle.stops.specs.Names.{mayEnd, longBy, slashNameBy, symbolNameBy, sectionNameBy}
+
+-- ---- the string table
+module _ (f t : List ℕ) (h : Header) (k l : ℕ) (is : t ≡ part f k l) where
+  pub strings-are : k ≡ stringTable h → l ≡ stringLength f h → t ≡ strings f h
+  strings-are a b = rw (← a, ← b) is
+
+  pub strings-short : l < 2 ^ 32 → length t < 2 ^ 32
+  strings-short b = let m = part-most f k l in rw is (omega arith)
+
+pub ruleset table = (strings-are, strings-short)
+
+-- ---- scan: w of the n places from i lie within the table
+module _ (t : List ℕ) (i n k w x : ℕ) where
+  left-suc : w ≡ min n (length t - i) → k < i + w → i + n - k ≡ suc (i + n - (k + 1))
+  left-suc q a = omega arith
+
+  pub scan-found : (r : Bool) → w ≡ min n (length t - i) → k < i + w → r ≡ visible (getD t k 0) → not r ≡ true → stopIn t k (i + n - k) ≡ x → k ≡ x
+  unfolding stopIn pick
+  scan-found r q a v z e = simp (left-suc q a, ← v, not-true r z) at e
+
+  pub scan-more : (r : Bool) → w ≡ min n (length t - i) → k < i + w → r ≡ visible (getD t k 0) → not r ≡ false → stopIn t k (i + n - k) ≡ x → stopIn t (k + 1) (i + n - (k + 1)) ≡ x
+  unfolding stopIn pick
+  scan-more r q a v z e = simp (left-suc q a, ← v, not-false r z) at e
+
+  pub scan-end : w ≡ min n (length t - i) → k ≤ i + w → i + w ≤ k → stopIn t k (i + n - k) ≡ x → k ≡ x
+  unfolding stopIn pick
+  scan-end q a b e =
+      ⊎-elim (λ (c : n ≤ length t - i). let z : i + n - k ≡ 0 = omega arith in rw z at e)
+      (λ (c : length t - i < n). let z : i + n - k ≡ suc (i + n - (k + 1)) = omega arith in rw (z, past t k (omega arith)) at e)
+      (le-or-lt n (length t - i))
+
+pub scan-begin : (t : List ℕ) (i n : ℕ) → stopIn t i (i + n - i) ≡ stopIn t i n
+scan-begin t i n = let e : i + n - i ≡ n = omega arith in rw e
+
+pub ruleset scan-loop = (scan-begin, scan-found, scan-more, scan-end)
+
+-- ---- the stops of the blocks, one behind another
+module _ (t : List ℕ) (b s : ℕ) where
+  pub next-same : s ≡ stop t ((b - 1) * BLOCK) → b * BLOCK ≤ s → s ≡ stop t (b * BLOCK)
+  next-same e a = e ∙ sym (stop-same t ((b - 1) * BLOCK) (b * BLOCK) (omega arith) (rw e at a))
+
+  pub next-fits : (n : ℕ) → b < n → n ≤ length t / BLOCK + 1 → length t < 2 ^ 32 → s ≡ stop t (b * BLOCK) → s < 2 ^ 32
+  next-fits n a m l e = let r = stop-low t (b * BLOCK) (omega arith) in omega arith
+
+  pub next-on : s ≡ stop t (b * BLOCK) → s ≡ stop t ((b + 1 - 1) * BLOCK)
+  next-on e = let z : b + 1 - 1 ≡ b = omega arith in rw z e
+
+  pub stops-again : (l m m′ : List ℕ) (x : ℕ) → m ≡ splice l 0 (stopWords t b) → x ≡ s → s ≡ stop t (b * BLOCK) → m′ ≡ splice m b (x ∷ []) → m′ ≡ splice l 0 (stopWords t (b + 1))
+  stops-again l m m′ x e q p d = fill-again (λ k. stop t (k * BLOCK)) l m m′ b x e (q ∙ p) d
+
+pub ruleset stops-loop = (fill-none, stops-again, fill-end, next-on, next-fits, splice-long)
+
+-- of the file's string table
+module _ (f t : List ℕ) (h : Header) (n : ℕ) (table : t ≡ strings f h) (said : n ≡ blocksOf (length t)) where
+  pub blocks-are : n ≡ stopCount f h
+  blocks-are = rw (← table) said
+
+  pub stops-are : (l m : List ℕ) → m ≡ splice l 0 (stopWords t n) → m ≡ splice l 0 (stopsOf f h)
+  stops-are l m e = rw (← table, ← said) e
+
+pub ruleset filling = (blocks-are, stops-are)
+
+-- ---- the stop from o
+module _ (t stops : List ℕ) (o s : ℕ) (is : s ≡ stopIn t o (BLOCK - o % BLOCK)) where
+  pub by-least : o ≤ s
+  by-least = let a = stop-least t o (BLOCK - o % BLOCK) in omega arith
+
+  pub by-here : s - o < BLOCK - o % BLOCK → s ≡ stopBy t stops o
+  unfolding stopBy pick
+  by-here a = rw (← is, lt-ltb (s - o) (BLOCK - o % BLOCK) a)
+
+  module _ (x : ℕ) (none : BLOCK - o % BLOCK ≤ s - o) where
+    pub by-noted : o / BLOCK + 1 < length stops → x ≡ getD stops (o / BLOCK + 1) 0 → x ≡ stopBy t stops o
+    unfolding stopBy stopBehind pick
+    by-noted a e = rw (← is, le-ltb (s - o) (BLOCK - o % BLOCK) none, lt-ltb (o / BLOCK + 1) (length stops) a) e
+
+    pub by-behind : length stops ≤ o / BLOCK + 1 → x ≡ stop t s → x ≡ stopBy t stops o
+    unfolding stopBy stopBehind pick
+    by-behind a e = rw (← is, le-ltb (s - o) (BLOCK - o % BLOCK) none, le-ltb (o / BLOCK + 1) (length stops) a) e
+
+pub ruleset stop-ways = (by-least, by-here, by-noted, by-behind)
+
+-- ---- a long name
+pub end-is : (t : List ℕ) (n o s b : ℕ) (empty : Bool) {r x y z w : Bool} → r ≡ (leb LENGTH-SIZE o && x) → x ≡ (ltb s n && y) → y ≡ (eqb b 0 && z) → z ≡ (ltb o s || w) → w ≡ (empty && eqb o s) → b ≡ getD t s 0
+    → r ≡ mayEnd t n empty o s
+unfolding mayEnd
+end-is t n o s b empty e d g v u a = rw (← a, ← u, ← v, ← g, ← d) e
+
+far-behind : (o s : ℕ) (empty : Bool) → (ltb o s || (empty && eqb o s)) ≡ true → o ≤ s
+far-behind o s empty e =
+    ⊎-elim (λ a. let l = ltb-true o s a in omega arith)
+    (λ a. let z : (empty && eqb o s) ≡ true = rw a at e in let q = eqb-true o s (and-right empty (eqb o s) z) in omega arith)
+    (yes-no (ltb o s))
+
+module _ (t : List ℕ) (n o s : ℕ) (empty : Bool) (r : Bool) (says : r ≡ mayEnd t n empty o s) (yes : r ≡ true) where
+  ending : (leb LENGTH-SIZE o && (ltb s n && (eqb (getD t s 0) 0 && (ltb o s || (empty && eqb o s))))) ≡ true
+  unfolding mayEnd
+  ending = sym says ∙ yes
+
+  within : (ltb s n && (eqb (getD t s 0) 0 && (ltb o s || (empty && eqb o s)))) ≡ true
+  within = and-right (leb LENGTH-SIZE o) _ ending
+
+  pub end-behind : o ≤ s
+  end-behind = far-behind o s empty (and-right (eqb (getD t s 0) 0) _ (and-right (ltb s n) _ within))
+
+  pub end-fits : (k : ℕ) → k < 2 ^ 38 → n < 2 ^ 32 → k + o < 2 ^ 64
+  end-fits k a b = let l = ltb-true s n (and-left (ltb s n) _ within) in let q = end-behind in omega arith
+
+module _ (f : List ℕ) (h : Header) (stops t : List ℕ) (n o s : ℕ) (empty r : Bool) (table : t ≡ strings f h) (said : n ≡ stringLength f h) (ends : s ≡ stopBy t stops o) (says : r ≡ mayEnd t n empty o s) where
+  pub long-good : (k : ℕ) → r ≡ true → k ≡ stringTable h → Good (k + o) (s - o) ≡ longBy f h stops empty o
+  unfolding pick
+  long-good k y e = rw (← table, ← said, ← ends, ← says, y, e)
+
+  pub long-bad : r ≡ false → Bad ≡ longBy f h stops empty o
+  unfolding pick
+  long-bad y = rw (← table, ← said, ← ends, ← says, y)
+
+pub ruleset long-ways = (end-behind, end-fits, long-good, long-bad)
+
+-- ---- the name of a symbol and of a section
+module _ (f : List ℕ) (h : Header) (stops : List ℕ) {r : Name} where
+  pub symbol-long : (j at x o : ℕ) → at ≡ symbolRecordAt h j → x ≡ get 4 f at → eqb x 0 ≡ true → o ≡ get 4 f (at + 4) → r ≡ longBy f h stops false o → r ≡ symbolNameBy f h stops j
+  unfolding symbolNameBy pick
+  symbol-long j at x o a e z q p = rw (← a, ← e, z, ← q) p
+
+  pub symbol-short : (j at x : ℕ) → at ≡ symbolRecordAt h j → x ≡ get 4 f at → eqb x 0 ≡ false → r ≡ symbolName f h j → r ≡ symbolNameBy f h stops j
+  unfolding symbolNameBy pick
+  symbol-short j at x a e z p = let y : eqb (get 4 f (symbolRecordAt h j)) 0 ≡ false = rw (← a, ← e) z in rw y p
+
+  pub slash-long : (d : Digits) (o : ℕ) → d ≡ digits.Offset o → r ≡ longBy f h stops true o → r ≡ slashNameBy f h stops d
+  unfolding slashNameBy
+  slash-long d o e p = rw e p
+
+  pub section-slash : (i at b : ℕ) (d : Digits) → at ≡ sectionHeaderAt h i → b ≡ getD f at 0 → eqb b SLASH ≡ true → d ≡ slashOffset f (sectionHeaderAt h i) → r ≡ slashNameBy f h stops d → r ≡ sectionNameBy f h stops i
+  unfolding sectionNameBy pick
+  section-slash i at b d a e z q p = let y : eqb (getD f (sectionHeaderAt h i) 0) SLASH ≡ true = rw (← a, ← e) z in rw (y, ← q) p
+
+  pub section-short : (i at b : ℕ) → at ≡ sectionHeaderAt h i → b ≡ getD f at 0 → eqb b SLASH ≡ false → r ≡ sectionName f h i → r ≡ sectionNameBy f h stops i
+  unfolding sectionNameBy pick
+  section-short i at b a e z p = let y : eqb (getD f (sectionHeaderAt h i) 0) SLASH ≡ false = rw (← a, ← e) z in rw y p
+
+pub slash-bad : (f : List ℕ) (h : Header) (stops : List ℕ) (d : Digits) → d ≡ digits.Bad → Bad ≡ slashNameBy f h stops d
+unfolding slashNameBy
+slash-bad f h stops d e = rw e
+
+pub ruleset name-ways = (symbol-long, symbol-short, slash-long, slash-bad, section-slash, section-short)

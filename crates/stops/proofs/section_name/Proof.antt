@@ -1,0 +1,16 @@
+use borrow.Author.Needs.{needs}
+use Rattle.stops.proofs.Laws.{name-ways}
+use Rattle.stops.proofs.section_name.Statement.{statement}
+use Rattle.stops.proofs.section_name.Tie as tie
+
+pub section-name-spec : {M : Type 1} → statement M
+section-name-spec =
+    tie.close
+    (tie.spec
+    (λ c. search (needs, name-ways))
+    (λ c. search (needs, name-ways))
+    (λ c. search (needs, name-ways))
+    (λ c. search (needs, name-ways))
+    (λ c. search (needs, name-ways))
+    (λ c. search (needs, name-ways))
+    (λ c. search (needs, name-ways)))

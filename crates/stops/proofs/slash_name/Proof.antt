@@ -1,0 +1,14 @@
+use borrow.Author.Needs.{needs}
+use Rattle.stops.proofs.Laws.{name-ways}
+use Rattle.stops.proofs.slash_name.Statement.{statement}
+use Rattle.stops.proofs.slash_name.Tie as tie
+
+pub slash-name-spec : {M : Type 1} → statement M
+slash-name-spec =
+    tie.close
+    (tie.spec
+    (λ c. search (needs, name-ways))
+    (λ c. search (needs, name-ways))
+    (λ c. search (needs, name-ways))
+    (λ c. search (needs, name-ways))
+    (λ c. search (needs, name-ways)))

@@ -1,0 +1,4 @@
+pub mod Stops
+pub mod StopLaws
+pub mod Names
+pub mod NameLaws

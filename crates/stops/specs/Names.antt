@@ -1,0 +1,40 @@
+-- Names by the noted stops. With the words of the file itself they are those of the rule (`NameLaws`).
+use mathlib.Core.Bool.{Bool, true, false, _&&_, _||_}
+use mathlib.Core.List.{List}
+use Prim.Native.Nat.{ℕ, _+_, _-_}
+use lib.Dec.{ltb, leb, eqb}
+use lib.ListN.{getD}
+use Rattle.util.specs.Pick.{pick}
+use Rattle.le.specs.Le.{get}
+use Rattle.object.specs.declared.Header.{Header}
+use Rattle.object.specs.Format.{LENGTH-SIZE, sectionHeaderAt, symbolRecordAt, stringTable, stringLength}
+use Rattle.names.specs.declared.Name.{Name}
+use Rattle.names.specs.declared.Name.the-variants.{Good, Bad}
+use Rattle.names.specs.declared.Digits.{Digits}
+use Rattle.names.specs.declared.Digits.the-variants as digits
+use Rattle.names.specs.Name.{SLASH, slashOffset, sectionName, symbolName}
+use Rattle.stops.specs.Stops.{strings, stopBy}
+
+-- in a table that says it has n bytes a name at offset o may end at s: there is a zero within them, behind o, or at o where a name may be empty
+unfoldable pub mayEnd : List ℕ → ℕ → Bool → ℕ → ℕ → Bool
+mayEnd t n empty o s = leb LENGTH-SIZE o && (ltb s n && (eqb (getD t s 0) 0 && (ltb o s || (empty && eqb o s))))
+
+-- the long name at offset o whose visible bytes end at s, and by the noted stops
+abbrev pub longTo : List ℕ → Header → Bool → ℕ → ℕ → Name
+longTo f h empty o s = pick (mayEnd (strings f h) (stringLength f h) empty o s) (Good (stringTable h + o) (s - o)) Bad
+
+abbrev pub longBy : List ℕ → Header → List ℕ → Bool → ℕ → Name
+longBy f h stops empty o = longTo f h empty o (stopBy (strings f h) stops o)
+
+-- the name of symbol j
+unfoldable pub symbolNameBy : List ℕ → Header → List ℕ → ℕ → Name
+symbolNameBy f h stops j = pick (eqb (get 4 f (symbolRecordAt h j)) 0) (longBy f h stops false (get 4 f (symbolRecordAt h j + 4))) (symbolName f h j)
+
+-- a section's that begins with a slash, by its digits; the name of section i
+unfoldable pub slashNameBy : List ℕ → Header → List ℕ → Digits → Name
+slashNameBy f h stops (digits.Offset o) = longBy f h stops true o
+slashNameBy f h stops digits.Bad = Bad
+
+unfoldable pub sectionNameBy : List ℕ → Header → List ℕ → ℕ → Name
+sectionNameBy f h stops i =
+    pick (eqb (getD f (sectionHeaderAt h i) 0) SLASH) (slashNameBy f h stops (slashOffset f (sectionHeaderAt h i))) (sectionName f h i)

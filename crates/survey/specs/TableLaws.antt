@@ -1,0 +1,140 @@
+-- The words that survey and load fill once say what the rules do, where the file's records pass their checks.
+use mathlib.Core.Path.{_≡_, refl, sym, ap, _∙_, fun-ext}
+use mathlib.Core.Bool.{true, false, not, _||_}
+use mathlib.Core.List.{List, _++_}
+use mathlib.Core.Logic.{⊎-elim}
+use Prim.Native.Nat.{ℕ, _+_, _%_, _^_, _≤_, _<_}
+use native.Mathlib.Omega.{arith}
+use lib.ListN.{length, getD, replicate, length-replicate, getD-replicate, List·getD-eq-default}
+use borrow.Author.Tests.{leb-true, le-leb, lt-leb}
+use Rattle.limits.specs.Limits.{MAX-SECTIONS, MAX-SYMBOLS, MAX-PAGES, MAX-EXTERNS}
+use Rattle.util.specs.Pick.{pick, le-or-lt}
+use Rattle.util.specs.Prefix.{length-list, list-at, all-at}
+use Rattle.le.specs.Le.{splice, splice-above, part, filled}
+use Rattle.arch.specs.declared.Offset.{Offset}
+use Rattle.object.specs.declared.Header.{Header}
+use Rattle.object.specs.Symbol.{primary, symbolPlace, kind, okAt}
+use Rattle.kinds.specs.declared.SymbolKind.{SymbolKind}
+use Rattle.kinds.specs.declared.SymbolKind.the-variants as kinds
+use Rattle.kinds.specs.declared.Place.{Place}
+use Rattle.kinds.specs.declared.Place.the-variants.{In, Undefined, Common, Absolute, Nowhere, Other}
+use Rattle.layout.specs.Layout.{startAt, undefStart, startsTo}
+use Rattle.layout.specs.LayoutLaws.{starts-fit}
+use Rattle.homes.specs.Home.{homeWord, homeStart, homeOf, homesTo, homeIn, sectionHome}
+use Rattle.homes.specs.HomeLaws.{homes-kept}
+use Rattle.checks.specs.Checks.{placeWithin, numberOk, numbersOk}
+use Rattle.rules.specs.declared.Rule.the-variants as rules
+use Rattle.rules.specs.Rule.{ruleOf}
+use Rattle.codes.specs.Code.{SPAN, symbolRule, putsIn}
+use Rattle.codes.specs.Puts.{Kept, front-at, filled-kept, puts-kept}
+use Rattle.externs.specs.Externs.{externs, externsBy}
+use Rattle.externs.specs.Slot.{slotOf}
+use Rattle.externs.specs.Slotted.{slotted}
+use Rattle.targets.specs.Target.{targetOf, targets}
+use Rattle.targets.specs.declared.Target.{Target}
+use Rattle.targets.specs.Table.{targetIn, Coded, target-kept}
+use Rattle.survey.specs.Survey.{firstFailed, answerBy}
+use Rattle.survey.specs.Surveying.{Fits, externsAnswer, answerIn, homeWords, startWords, codeWords}
+
+zero-at : (size j : ℕ) → getD {A = ℕ} (replicate size 0) j 0 ≡ 0
+zero-at size j =
+    ⊎-elim (λ p. List·getD-eq-default (replicate {A = ℕ} size 0) 0 {n = j} (rw (length-replicate {A = ℕ} size 0) p)) (λ p. getD-replicate {A = ℕ} size j 0 0 p) (le-or-lt size j)
+
+-- zeros behind a list read as what is past it
+padded : (xs : List ℕ) (size j : ℕ) → length xs ≤ size → getD (splice (replicate size 0) 0 xs) j 0 ≡ getD xs j 0
+padded xs size j k =
+    let z : length {A = ℕ} (replicate size 0) ≡ size = length-replicate {A = ℕ} size 0 in
+    ⊎-elim
+    (λ p. splice-above (replicate size 0) 0 xs j (omega arith) ∙ zero-at size j ∙ sym (List·getD-eq-default xs 0 p))
+    (λ p. front-at (replicate size 0) xs j p (omega arith))
+    (le-or-lt (length xs) j)
+
+-- a home is looked for with a symbol in a section alone
+in-section : (k : SymbolKind) (p : Place) (n : ℕ) → ruleOf k p ≡ rules.Section n → p ≡ In n
+in-section kinds.Data (In m) n e = cc
+in-section kinds.Data Undefined n e = absurd (let w : _≡_ {A = ℕ} 0 1 = cc in omega arith)
+in-section kinds.Data Common n e = absurd (let w : _≡_ {A = ℕ} 0 1 = cc in omega arith)
+in-section kinds.Data Absolute n e = absurd (let w : _≡_ {A = ℕ} 0 1 = cc in omega arith)
+in-section kinds.Data Nowhere n e = absurd (let w : _≡_ {A = ℕ} 0 1 = cc in omega arith)
+in-section kinds.Data Other n e = absurd (let w : _≡_ {A = ℕ} 0 1 = cc in omega arith)
+in-section kinds.Text (In m) n e = cc
+in-section kinds.Text Undefined n e = absurd (let w : _≡_ {A = ℕ} 0 1 = cc in omega arith)
+in-section kinds.Text Common n e = absurd (let w : _≡_ {A = ℕ} 0 1 = cc in omega arith)
+in-section kinds.Text Absolute n e = absurd (let w : _≡_ {A = ℕ} 0 1 = cc in omega arith)
+in-section kinds.Text Nowhere n e = absurd (let w : _≡_ {A = ℕ} 0 1 = cc in omega arith)
+in-section kinds.Text Other n e = absurd (let w : _≡_ {A = ℕ} 0 1 = cc in omega arith)
+in-section kinds.Section (In m) n e = cc
+in-section kinds.Section Undefined n e = absurd (let w : _≡_ {A = ℕ} 0 1 = cc in omega arith)
+in-section kinds.Section Common n e = absurd (let w : _≡_ {A = ℕ} 0 1 = cc in omega arith)
+in-section kinds.Section Absolute n e = absurd (let w : _≡_ {A = ℕ} 0 1 = cc in omega arith)
+in-section kinds.Section Nowhere n e = absurd (let w : _≡_ {A = ℕ} 0 1 = cc in omega arith)
+in-section kinds.Section Other n e = absurd (let w : _≡_ {A = ℕ} 0 1 = cc in omega arith)
+in-section kinds.Label (In m) n e = cc
+in-section kinds.Label Undefined n e = absurd (let w : _≡_ {A = ℕ} 0 1 = cc in omega arith)
+in-section kinds.Label Common n e = absurd (let w : _≡_ {A = ℕ} 0 1 = cc in omega arith)
+in-section kinds.Label Absolute n e = absurd (let w : _≡_ {A = ℕ} 0 1 = cc in omega arith)
+in-section kinds.Label Nowhere n e = absurd (let w : _≡_ {A = ℕ} 0 1 = cc in omega arith)
+in-section kinds.Label Other n e = absurd (let w : _≡_ {A = ℕ} 0 1 = cc in omega arith)
+in-section kinds.Unknown (In m) n e = absurd (let w : _≡_ {A = ℕ} 0 1 = cc in omega arith)
+in-section kinds.Unknown Undefined n e = absurd (let w : _≡_ {A = ℕ} 0 1 = cc in omega arith)
+in-section kinds.Unknown Common n e = absurd (let w : _≡_ {A = ℕ} 0 1 = cc in omega arith)
+in-section kinds.Unknown Absolute n e = absurd (let w : _≡_ {A = ℕ} 0 1 = cc in omega arith)
+in-section kinds.Unknown Nowhere n e = absurd (let w : _≡_ {A = ℕ} 0 1 = cc in omega arith)
+in-section kinds.Unknown Other n e = absurd (let w : _≡_ {A = ℕ} 0 1 = cc in omega arith)
+in-section kinds.File p n e = absurd (let w : _≡_ {A = ℕ} 0 1 = cc in omega arith)
+
+module _ (f : List ℕ) (h : Header) (fits : Fits f h) where
+  -- the sections' homes and starts, and the symbols' codes
+  pub homes-whole : homeIn (homeWords f h) ≡ sectionHome f h
+  homes-whole =
+      let l = length-list {A = ℕ} (λ k. homeWord (homeStart f h (homeOf f h k))) (h .sections) in
+      let s = fits .sections in
+      fun-ext (λ j. rw (padded (homesTo f h (h .sections)) MAX-SECTIONS j (omega arith))) ∙ homes-kept f h (fits .pages)
+
+  pub starts-whole : (i : ℕ) → i < h .sections → getD (startWords f h) i 0 ≡ startAt f h i
+  starts-whole i k =
+      let l = length-list {A = ℕ} (λ j. startAt f h j % 2 ^ 32) (h .sections) in
+      let s = fits .sections in
+      let b = starts-fit f h (fits .pages) i (omega arith) in
+      let m : startAt f h i % 2 ^ 32 ≡ startAt f h i = omega arith in
+      padded (startsTo f h (h .sections)) MAX-SECTIONS i (omega arith) ∙ list-at (λ j. startAt f h j % 2 ^ 32) 0 (h .sections) i k ∙ m
+
+  pub starts-front : part (startWords f h) 0 (h .sections) ≡ startsTo f h (h .sections)
+  starts-front =
+      let s = fits .sections in
+      filled (λ j. startAt f h j % 2 ^ 32) (startWords f h) (part (startWords f h) 0 (h .sections)) MAX-SECTIONS (h .sections) refl s refl
+
+  pub codes-whole : Kept f h (codeWords f h)
+  codes-whole = filled-kept f h (codeWords f h) MAX-SYMBOLS (fits .symbols) refl
+
+  -- so the extern names are the file's
+  pub names-whole : externsBy f h (putsIn (codeWords f h)) ≡ externs f h
+  names-whole = ap (externsBy f h) (puts-kept f h (codeWords f h) codes-whole)
+
+  module _ (numbers : numbersOk f h ≡ true) where
+    number-low : (j n : ℕ) → j < h .symbols → primary f h j ≡ true → symbolRule f h j ≡ rules.Section n → n < SPAN
+    unfolding okAt
+    number-low j n k p e =
+        let a : (not (primary f h j) || numberOk f h j) ≡ true = all-at (okAt numberOk f h) (h .symbols) j numbers k in
+        let b : numberOk f h j ≡ true = rw p at a in
+        let c : placeWithin (h .sections) (In n) ≡ true = rw (in-section (kind f h j) (symbolPlace f h j) n e) at b in
+        let d = leb-true n (h .sections) c in
+        let s = fits .sections in
+        omega arith
+
+    coded : Coded f h
+    coded = record { sections = let s = fits .sections in omega arith; numbers = number-low }
+
+    -- and the targets too
+    pub targets-whole : length (externs f h) ≤ MAX-EXTERNS
+        → targetIn (homeWords f h) (startWords f h) (undefStart f h) (slotted f h (externs f h) (codeWords f h)) ≡ targets f h
+    targets-whole few =
+        fun-ext (target-kept f h (homeIn (homeWords f h)) (startWords f h) (externs f h) (codeWords f h) coded codes-whole starts-whole (omega arith))
+        ∙ ap (λ (home : ℕ → Offset). targetOf f h home (undefStart f h) (slotOf f h (externs f h))) homes-whole
+
+    -- the answer is the one by the rules
+    pub answer-whole : answerIn f h (homeWords f h) (startWords f h) (codeWords f h) ≡ externsAnswer f h (sectionHome f h) (targets f h) (length (externs f h))
+    unfolding answerBy firstFailed pick
+    answer-whole =
+        rw names-whole
+        (⊎-elim (λ k. rw (targets-whole k, homes-whole)) (λ k. rw (lt-leb (length (externs f h)) MAX-EXTERNS k)) (le-or-lt (length (externs f h)) MAX-EXTERNS))

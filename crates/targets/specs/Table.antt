@@ -1,0 +1,193 @@
+-- The targets by the codes that are kept of the symbols (crates `codes` and `externs`): each is what its symbol comes to (`targets-kept`).
+use mathlib.Core.Path.{_≡_, refl, ap, _∙_, fun-ext}
+use mathlib.Core.Bool.{Bool, true, false, _||_}
+use mathlib.Core.List.{List}
+use mathlib.Core.Logic.{⊎-elim}
+use Prim.Native.Nat.{ℕ, _+_, _-_, _*_, _%_, _≤_, _<_}
+use native.Mathlib.Omega.{arith}
+use lib.Dec.{eqb, leb, ltb}
+use lib.ListN.{length, getD}
+use borrow.Author.Tests.{ne-eqb, lt-ltb, le-ltb, lt-leb, le-leb}
+use Rattle.util.specs.Pick.{pick, yes-no, le-or-lt}
+use Rattle.util.specs.Prefix.{length-list, list-at}
+use Rattle.le.specs.Le.{splice-above}
+use Rattle.limits.specs.Limits.{SLOT-SIZE}
+use Rattle.arch.specs.declared.Offset.{Offset}
+use Rattle.arch.specs.declared.Offset.the-variants.{At, None}
+use Rattle.arch.specs.Address.{rva}
+use Rattle.object.specs.declared.Header.{Header}
+use Rattle.object.specs.Symbol.{primary}
+use Rattle.names.specs.Bytes.{sameBytes, UNDEF}
+use Rattle.names.specs.Name.{symbolText}
+use Rattle.rules.specs.declared.Rule.{Rule}
+use Rattle.rules.specs.declared.Rule.the-variants as rules
+use Rattle.codes.specs.Code.{AUXILIARY, REFUSED, SLOT, EXTERN, UNDEF-RECORD, UNDEF-EXTERN, NO-SLOT, SPAN, HOMES, RECORDS, SLOTS, someSectionNamed, symbolRule, namedCode, ruleCode, symbolCode, codeOf}
+use Rattle.codes.specs.Puts.{Kept, front-at}
+use Rattle.layout.specs.Layout.{startAt, undefStart}
+use Rattle.homes.specs.declared.Home as Homes
+use Rattle.homes.specs.declared.Home.the-variants.{Loaded, Undef, Nowhere}
+use Rattle.homes.specs.Home.{loadedNamed, namedRecord, homeStart, byNumber, homeIn}
+use Rattle.homes.specs.FirstLaws.{found-at}
+use Rattle.externs.specs.declared.Found.{Found}
+use Rattle.externs.specs.declared.Found.the-variants.{Index, Nothing}
+use Rattle.externs.specs.Slot.{slotOf}
+use Rattle.externs.specs.SlotLaws.{slot-inside}
+use Rattle.externs.specs.Slotted.{foundCode, takesSlot, slottedCode, slottedAt, slottedTo, slotted}
+use Rattle.targets.specs.declared.Skip.the-variants.{NoSymbol, NoSlot}
+use Rattle.targets.specs.declared.Target.{Target}
+use Rattle.targets.specs.declared.Target.the-variants.{Home, Named, Slot, Missing, Refused}
+use Rattle.targets.specs.Target.{homeTarget, slotTarget, namedTarget, ruleTarget, targetOf}
+
+-- a code that stands for one thing
+unfoldable pub plainTarget : ℕ → ℕ → Target
+plainTarget undef c =
+    pick (eqb c 0) (Missing NoSymbol) (pick (leb c REFUSED) Refused (pick (eqb c UNDEF-RECORD || eqb c UNDEF-EXTERN) (Named (rva undef)) (Missing NoSlot)))
+
+-- any code: `home` says where a section's home starts, `starts` has where the sections do
+unfoldable pub codeTarget : (ℕ → Offset) → List ℕ → ℕ → ℕ → Target
+codeTarget home starts undef c =
+    pick (ltb c HOMES) (plainTarget undef c)
+    (pick (ltb c RECORDS) (homeTarget (byNumber home None (c - HOMES)))
+    (pick (ltb c SLOTS) (Named (rva (getD starts (c - RECORDS) 0))) (Slot (rva (undef + SLOT-SIZE * (c - SLOTS))))))
+
+-- symbol j's, by the words that are kept
+abbrev pub targetIn : List ℕ → List ℕ → ℕ → List ℕ → ℕ → Target
+targetIn homes starts undef codes j = codeTarget (homeIn homes) starts undef (getD codes j 0)
+
+-- ---- each code says what was coded
+module _ (home : ℕ → Offset) (starts : List ℕ) (undef : ℕ) where
+  of-home : (n : ℕ) → n < SPAN → codeTarget home starts undef (HOMES + n % SPAN) ≡ homeTarget (byNumber home None n)
+  unfolding codeTarget pick
+  of-home n k =
+      let m : n % SPAN ≡ n = omega arith in
+      let d : HOMES + n - HOMES ≡ n = omega arith in
+      rw (m, le-ltb (HOMES + n) HOMES (omega arith), lt-ltb (HOMES + n) RECORDS (omega arith), d)
+
+  of-record : (i : ℕ) → i < SPAN → codeTarget home starts undef (RECORDS + i % SPAN) ≡ Named (rva (getD starts i 0))
+  unfolding codeTarget pick
+  of-record i k =
+      let m : i % SPAN ≡ i = omega arith in
+      let d : RECORDS + i - RECORDS ≡ i = omega arith in
+      rw (m, le-ltb (RECORDS + i) HOMES (omega arith), le-ltb (RECORDS + i) RECORDS (omega arith), lt-ltb (RECORDS + i) SLOTS (omega arith), d)
+
+  of-slot : (e : ℕ) → e < SPAN → codeTarget home starts undef (SLOTS + e % SPAN) ≡ Slot (rva (undef + SLOT-SIZE * e))
+  unfolding codeTarget pick
+  of-slot e k =
+      let m : e % SPAN ≡ e = omega arith in
+      let d : SLOTS + e - SLOTS ≡ e = omega arith in
+      rw (m, le-ltb (SLOTS + e) HOMES (omega arith), le-ltb (SLOTS + e) RECORDS (omega arith), le-ltb (SLOTS + e) SLOTS (omega arith), d)
+
+  -- those that stand for one thing
+  of-none : codeTarget home starts undef NO-SLOT ≡ Missing NoSlot
+  unfolding codeTarget plainTarget pick
+  of-none = refl
+
+  of-undef : codeTarget home starts undef UNDEF-RECORD ≡ Named (rva undef)
+  unfolding codeTarget plainTarget pick
+  of-undef = refl
+
+  of-undef-extern : codeTarget home starts undef UNDEF-EXTERN ≡ Named (rva undef)
+  unfolding codeTarget plainTarget pick
+  of-undef-extern = refl
+
+  of-refused : codeTarget home starts undef REFUSED ≡ Refused
+  unfolding codeTarget plainTarget pick
+  of-refused = refl
+
+  of-auxiliary : codeTarget home starts undef AUXILIARY ≡ Refused
+  unfolding codeTarget plainTarget pick
+  of-auxiliary = refl
+
+  of-nothing : codeTarget home starts undef 0 ≡ Missing NoSymbol
+  unfolding codeTarget plainTarget pick
+  of-nothing = refl
+
+  -- where the slot is taken
+  of-found : (x : Found) → ((e : ℕ) → x ≡ Index e → e < SPAN) → codeTarget home starts undef (foundCode x) ≡ slotTarget undef x
+  unfolding foundCode slotTarget
+  of-found (Index e) few = of-slot e (few e refl)
+  of-found Nothing few = of-none
+
+high-takes : (c : ℕ) → HOMES ≤ c → takesSlot c ≡ false
+high-takes c k = rw (ne-eqb c SLOT (λ e. omega arith), ne-eqb c EXTERN (λ e. omega arith))
+
+-- ---- of a symbol's own record, and of any
+module _ (f : List ℕ) (h : Header) (home : ℕ → Offset) (starts : List ℕ) (slot : List ℕ → Found) (j : ℕ) (few : (e : ℕ) → slot (symbolText f h j) ≡ Index e → e < SPAN) where
+  abbrev decoded : ℕ → Target
+  decoded c = codeTarget home starts (undefStart f h) (slottedCode c (slot (symbolText f h j)))
+
+  abbrev slotAt : Target
+  slotAt = slotTarget (undefStart f h) (slot (symbolText f h j))
+
+  -- where it takes the slot of its name, and where not
+  taken : (c : ℕ) → takesSlot c ≡ true → decoded c ≡ slotAt
+  unfolding slottedCode pick
+  taken c t = rw t (of-found home starts (undefStart f h) (slot (symbolText f h j)) few)
+
+  left : (c : ℕ) → takesSlot c ≡ false → decoded c ≡ codeTarget home starts (undefStart f h) c
+  unfolding slottedCode pick
+  left c t = rw t
+
+  module _ (begins : (i : ℕ) → i < h .sections → getD starts i 0 ≡ startAt f h i) (small : h .sections ≤ SPAN) where
+    by-name : (x : Homes.Home) (b : Bool) → ((i : ℕ) → x ≡ Loaded i → i < h .sections) → decoded (namedCode x b) ≡ namedTarget (homeStart f h x) slotAt
+    unfolding namedCode namedTarget homeStart pick
+    by-name (Loaded i) b within =
+        let k : i < h .sections = within i refl in
+        left (RECORDS + i % SPAN) (high-takes (RECORDS + i % SPAN) (omega arith)) ∙ of-record home starts (undefStart f h) i (omega arith) ∙ ap (λ (s : ℕ). Named (rva s)) (begins i k)
+    by-name Undef true within = left UNDEF-RECORD refl ∙ of-undef home starts (undefStart f h)
+    by-name Undef false within = left UNDEF-EXTERN refl ∙ of-undef-extern home starts (undefStart f h)
+    by-name Nowhere true within = taken SLOT refl
+    by-name Nowhere false within = taken EXTERN refl
+
+    named-within : (name : List ℕ) (i : ℕ) → namedRecord f h name ≡ Loaded i → i < h .sections
+    named-within name i e = found-at (loadedNamed f h name) (sameBytes name UNDEF) (h .sections) i e .inside
+
+    by-rule : (r : Rule) → ((n : ℕ) → r ≡ rules.Section n → n < SPAN)
+        → decoded (ruleCode r (namedCode (namedRecord f h (symbolText f h j)) (someSectionNamed f h (symbolText f h j)))) ≡ ruleTarget f h home (undefStart f h) slot r j
+    unfolding ruleCode ruleTarget
+    by-rule (rules.Section n) low =
+        left (HOMES + n % SPAN) (high-takes (HOMES + n % SPAN) (omega arith)) ∙ of-home home starts (undefStart f h) n (low n refl)
+    by-rule rules.Extern low = taken EXTERN refl
+    by-rule rules.Slot low = taken SLOT refl
+    by-rule rules.Name low =
+        by-name (namedRecord f h (symbolText f h j)) (someSectionNamed f h (symbolText f h j)) (named-within (symbolText f h j))
+    by-rule rules.Refused low = left REFUSED refl ∙ of-refused home starts (undefStart f h)
+
+    by-record : (b : Bool) → ((n : ℕ) → b ≡ true → symbolRule f h j ≡ rules.Section n → n < SPAN)
+        → decoded (pick b (symbolCode f h j) AUXILIARY) ≡ pick b (ruleTarget f h home (undefStart f h) slot (symbolRule f h j) j) Refused
+    unfolding pick
+    by-record true low = by-rule (symbolRule f h j) (λ n e. low n refl e)
+    by-record false low = left AUXILIARY refl ∙ of-auxiliary home starts (undefStart f h)
+
+-- what the file has to be: section numbers and sections that the codes have room for
+pub record Coded (f : List ℕ) (h : Header) : Type 0 where
+  pub sections : h .sections ≤ SPAN
+  pub numbers : (j n : ℕ) → j < h .symbols → primary f h j ≡ true → symbolRule f h j ≡ rules.Section n → n < SPAN
+
+module _ (f : List ℕ) (h : Header) (home : ℕ → Offset) (starts : List ℕ) (ys codes : List ℕ) (fits : Coded f h) (kept : Kept f h codes)
+    (begins : (i : ℕ) → i < h .sections → getD starts i 0 ≡ startAt f h i) (names : length ys ≤ SPAN) where
+  code-is : (j : ℕ) → j < h .symbols → getD (slotted f h ys codes) j 0 ≡ slottedCode (codeOf f h j) (slotOf f h ys (symbolText f h j))
+  unfolding slottedAt pick
+  code-is j k =
+      let l : length (slottedTo f h ys codes (h .symbols)) ≡ h .symbols = length-list (slottedAt f h ys codes) (h .symbols) in
+      let o = kept .long in
+      let c : getD codes j 0 ≡ codeOf f h j = rw (lt-ltb j (h .symbols) k) at (kept .each j) in
+      front-at codes (slottedTo f h ys codes (h .symbols)) j (omega arith) (omega arith)
+      ∙ list-at (slottedAt f h ys codes) 0 (h .symbols) j k
+      ∙ ap (λ (x : ℕ). slottedCode x (slotOf f h ys (symbolText f h j))) c
+
+  code-past : (j : ℕ) → h .symbols ≤ j → getD (slotted f h ys codes) j 0 ≡ 0
+  unfolding pick
+  code-past j k =
+      let l : length (slottedTo f h ys codes (h .symbols)) ≡ h .symbols = length-list (slottedAt f h ys codes) (h .symbols) in
+      splice-above codes 0 (slottedTo f h ys codes (h .symbols)) j (omega arith) ∙ rw (le-ltb j (h .symbols) k) at (kept .each j)
+
+  -- so the codes say what each number comes to
+  pub target-kept : (j : ℕ) → codeTarget home starts (undefStart f h) (getD (slotted f h ys codes) j 0) ≡ targetOf f h home (undefStart f h) (slotOf f h ys) j
+  unfolding targetOf pick
+  target-kept j =
+      ⊎-elim (λ k. rw (code-past j k, le-leb (h .symbols) j k) (of-nothing home starts (undefStart f h)))
+      (λ k. rw (code-is j k, lt-leb (h .symbols) j k)
+      (by-record f h home starts (slotOf f h ys) j (λ e q. let i = slot-inside f h (symbolText f h j) ys e q in omega arith) begins (fits .sections) (primary f h j)
+      (λ n b e. fits .numbers j n k b e)))
+      (le-or-lt (h .symbols) j)
