@@ -14,10 +14,11 @@ use Rattle.arch.specs.declared.Offset.the-variants.{At, None}
 use Rattle.arch.specs.declared.Address.{Address}
 use Rattle.arch.specs.declared.Address.the-variants.{Of, Past}
 
--- the address and the offset of a number
+-- a number as an address
 abbrev pub va : ℕ → VA
 va a = record { 0 = a }
 
+-- a number as an offset from the base
 abbrev pub rva : ℕ → RVA
 rva o = record { 0 = o }
 

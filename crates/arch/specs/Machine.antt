@@ -3,6 +3,7 @@ use mathlib.Core.Path.{_≡_, refl}
 use Prim.Native.Nat.{ℕ}
 use lib.Dec.{eqb}
 use Rattle.util.specs.Pick.{pick}
+use Rattle.refusal.specs.Refusal.{MACHINE}
 use Rattle.arch.specs.declared.Arch.{Arch}
 use Rattle.arch.specs.declared.Arch.the-variants.{X32, X64}
 use Rattle.arch.specs.declared.Machine.{Machine}
@@ -26,6 +27,11 @@ archOf n = pick (eqb n (machineOf X32)) (Known X32) (pick (eqb n (machineOf X64)
 abbrev pub archBy : Machine → Arch
 archBy (Known a) = a
 archBy Unknown = X32
+
+-- the refusal of each case (01, "Survey"), 0 where there is none
+abbrev pub machineRefusal : Machine → ℕ
+machineRefusal (Known a) = 0
+machineRefusal Unknown = MACHINE
 
 -- there and back
 pub machine-back : (a : Arch) → archOf (machineOf a) ≡ Known a

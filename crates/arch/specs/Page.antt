@@ -3,13 +3,15 @@ use mathlib.Core.Bool.{Bool}
 use Prim.Native.Nat.{ℕ, _*_, _/_, _%_}
 use lib.Dec.{eqb}
 
+-- the bytes of a page: the unit of layout, marks and page writes
 abbrev pub PAGE-SIZE : ℕ
 PAGE-SIZE = 4096
 
--- the number of the page that an offset lies in, and how far into it
+-- the number of the page that an offset lies in, from 0
 abbrev pub pageOf : ℕ → ℕ
 pageOf o = o / PAGE-SIZE
 
+-- how far an offset lies into its page
 abbrev pub inPage : ℕ → ℕ
 inPage o = o % PAGE-SIZE
 

@@ -25,6 +25,7 @@ pub enum Address {
     Past,
 }
 
+// The machines that are loaded: i386 and x64.
 pub enum Arch {
     X32,
     X64,
@@ -37,12 +38,16 @@ pub enum Machine {
 }
 
 impl Arch {
+    // In bytes, on i386.
     pub const X32_POINTER_SIZE: usize = 4;
 
+    // In bytes, on x64.
     pub const X64_POINTER_SIZE: usize = 8;
 
+    // IMAGE_FILE_MACHINE_I386, the first field of the file header.
     pub const X32_MACHINE: u16 = 0x014C;
 
+    // IMAGE_FILE_MACHINE_AMD64, the first field of the file header.
     pub const X64_MACHINE: u16 = 0x8664;
 
     // How many bytes a pointer has.

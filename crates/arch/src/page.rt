@@ -5,6 +5,7 @@ ghost use mathlib.Core.Path.{_≡_};
 ghost use Rattle.arch.specs.Page.{pageOf, inPage, pageStart, onPage};
 ghost use Rattle.arch.specs.Address.{rva};
 
+// The bytes of a page: the unit of layout, marks and page writes.
 pub const PAGE_SIZE: u64 = 4096;
 
 impl RVA {

@@ -18,7 +18,7 @@ use Rattle.refusal.specs.declared.Number.{Number}
 use Rattle.refusal.specs.Refusal.{STORAGE, numberOf, Leaves}
 use Rattle.pagemap.specs.Pages.{spanMapped, readCode}
 use Rattle.pagemap.specs.PageLaws.{read-span, read-in}
-use Rattle.aspace.specs.Space.{readNumber, bytesCode, reached, offsetAt, spanAt, readCodeAt, readNumberAt, bytesCodeAt}
+use Rattle.aspace.specs.Space.{readNumber, bytesCode, reached, offsetAt, spanMappedAt, readCodeAt, readNumberAt, bytesCodeAt}
 use Rattle.aspace.specs.SpaceLaws.{last-unmapped, offset-span, offset-there, leaves-same}
 
 -- ---- numbers at an offset
@@ -98,7 +98,7 @@ module _ (base a n : ℕ) where
 pub ruleset offsets = (offset-below, offset-past, offset-is)
 
 -- ---- by address is by that offset
-pub span-at : (size : ℕ) (marks : List ℕ) (base a n o : ℕ) (r : Bool) → size < 2 ^ 64 → o ≡ offsetAt base a n → r ≡ spanMapped size marks o n → r ≡ spanAt size marks base a n
+pub span-at : (size : ℕ) (marks : List ℕ) (base a n o : ℕ) (r : Bool) → size < 2 ^ 64 → o ≡ offsetAt base a n → r ≡ spanMapped size marks o n → r ≡ spanMappedAt size marks base a n
 span-at size marks base a n o r fits is e = e ∙ offset-span size marks base a n o fits is
 
 module _ (image marks : List ℕ) (base a n o : ℕ) (fits : length image * 1 < 2 ^ 63) (is : o ≡ offsetAt base a n) where

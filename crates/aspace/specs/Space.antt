@@ -29,12 +29,12 @@ unfoldable pub offsetAt : ℕ → ℕ → ℕ → ℕ
 offsetAt base a n = pick (reached base a n) (a - base) (2 ^ 64 - 1)
 
 -- those bytes are mapped, at the base
-unfoldable pub spanAt : ℕ → List ℕ → ℕ → ℕ → ℕ → Bool
-spanAt size marks base a n = reached base a n && spanMapped size marks (a - base) n
+unfoldable pub spanMappedAt : ℕ → List ℕ → ℕ → ℕ → ℕ → Bool
+spanMappedAt size marks base a n = reached base a n && spanMapped size marks (a - base) n
 
 -- reading n bytes from the address a: 13, 15
 unfoldable pub readCodeAt : ℕ → List ℕ → ℕ → ℕ → ℕ → ℕ
-readCodeAt size marks base a n = pick (storageOk size (length marks)) (pick (spanAt size marks base a n) 0 NOT-MAPPED) STORAGE
+readCodeAt size marks base a n = pick (storageOk size (length marks)) (pick (spanMappedAt size marks base a n) 0 NOT-MAPPED) STORAGE
 
 -- the number of n bytes at the address a
 unfoldable pub readNumberAt : ℕ → List ℕ → List ℕ → ℕ → ℕ → Number

@@ -13,12 +13,12 @@ use Rattle.refusal.specs.declared.Answer.{Answer}
 use Rattle.refusal.specs.Refusal.{unlessRefused, Leaves}
 use Rattle.pagemap.specs.Pages.{spanMapped, readCode}
 use Rattle.pagemap.specs.PageLaws.{span-in}
-use Rattle.aspace.specs.Space.{readNumber, reached, offsetAt, spanAt, readCodeAt, readNumberAt}
+use Rattle.aspace.specs.Space.{readNumber, reached, offsetAt, spanMappedAt, readCodeAt, readNumberAt}
 
 -- ---- by address is by offset, where the bytes do not pass 64 bits
 module _ (marks : List ℕ) (base o n : ℕ) (h : base + o + max n 1 ≤ 2 ^ 64) where
-  pub span-by-address : (size : ℕ) → spanAt size marks base (base + o) n ≡ spanMapped size marks o n
-  unfolding spanAt reached
+  pub span-by-address : (size : ℕ) → spanMappedAt size marks base (base + o) n ≡ spanMapped size marks o n
+  unfolding spanMappedAt reached
   span-by-address size =
       let above : leb base (base + o) ≡ true = le-leb base (base + o) (omega arith) in
       let below : leb (base + o + max n 1) (2 ^ 64) ≡ true = le-leb (base + o + max n 1) (2 ^ 64) h in
@@ -42,12 +42,12 @@ last-unmapped size marks o n h k =
     ⊎-elim (λ e. absurd (let i = span-in size marks o n e in omega arith)) (λ e. e) (yes-no (spanMapped size marks o n))
 
 module _ (size : ℕ) (marks : List ℕ) (base a n o : ℕ) (fits : size < 2 ^ 64) (is : o ≡ offsetAt base a n) where
-  span-by : (t : Bool) → reached base a n ≡ t → spanMapped size marks o n ≡ spanAt size marks base a n
-  unfolding spanAt offsetAt pick
+  span-by : (t : Bool) → reached base a n ≡ t → spanMapped size marks o n ≡ spanMappedAt size marks base a n
+  unfolding spanMappedAt offsetAt pick
   span-by true e = rw (is, e)
   span-by false e = rw (is, e) (last-unmapped size marks (2 ^ 64 - 1) n fits (omega arith))
 
-  pub offset-span : spanMapped size marks o n ≡ spanAt size marks base a n
+  pub offset-span : spanMapped size marks o n ≡ spanMappedAt size marks base a n
   offset-span = span-by (reached base a n) refl
 
   there-by : (t : Bool) → reached base a n ≡ t → spanMapped size marks o n ≡ true → o ≡ a - base

@@ -11,7 +11,7 @@ ghost use lib.ListN.{length};
 ghost use Rattle.arch.specs.Machine.{pointerSize};
 ghost use Rattle.le.specs.Le.{part, splice};
 ghost use Rattle.refusal.specs.Refusal.{Leaves};
-ghost use Rattle.aspace.specs.Space.{offsetAt, spanAt, readCodeAt, readNumberAt, bytesCodeAt};
+ghost use Rattle.aspace.specs.Space.{offsetAt, spanMappedAt, readCodeAt, readNumberAt, bytesCodeAt};
 
 // The offset of n bytes from the address `a`, at least one. Where one of them lies below the base or past 64 bits it is the last
 // offset of all, which no image has: they are not mapped.
@@ -29,7 +29,7 @@ pub fn offset_at(base: VA, a: VA, n: u64) -> RVA
 
 // All of n bytes from the address `a` are mapped at the base.
 pub fn span_at(size: u64, marks: &[u8], base: VA, a: VA, n: u64) -> bool
-    ensures { λ r. ⌜ r ≡ spanAt size (now (marks .entry)) (base .0) (a .0) n ⌝ }
+    ensures { λ r. ⌜ r ≡ spanMappedAt size (now (marks .entry)) (base .0) (a .0) n ⌝ }
 {
     pagemap::span_mapped(size, marks, offset_at(base, a, n), n)
 }

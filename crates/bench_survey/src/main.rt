@@ -4,37 +4,37 @@
 // its counts.
 mod input;
 mod line;
-mod plan;
+mod long_names;
 mod records;
-mod strings;
-mod symbols;
+mod shape;
+mod symbol_rows;
 
-use plan::Plan;
+use shape::Plan;
 
 // Room for the longest file that survey accepts, and for the numbers of 56 objects.
 fn main() {
     let mut buffer = [0u8; 4194304];
     let mut numbers = [0u32; 512];
     let n = input::read_numbers(&mut numbers);
-    objects(&numbers, n / plan::NUMBERS, &mut buffer);
+    objects(&numbers, n / shape::NUMBERS, &mut buffer);
 }
 
 fn objects(numbers: &[u32], n: u16, buffer: &mut [u8]) {
     let mut i: u16 = 0;
     while i < n {
-        let p = plan::plan_at(numbers, i);
+        let p = shape::plan_at(numbers, i);
         build(buffer, p);
-        surveys(le::part(buffer, 0, plan::size(p)), p.times);
+        surveys(le::part(buffer, 0, shape::size(p)), p.times);
         i += 1;
     }
 }
 
 fn build(buffer: &mut [u8], p: Plan) {
-    le::zero(buffer, 0, plan::size(p));
+    le::zero(buffer, 0, shape::size(p));
     records::put_header(buffer, p);
     records::put_sections(buffer, p);
-    symbols::put_symbols(buffer, p);
-    strings::put_strings(buffer, p);
+    symbol_rows::put_symbols(buffer, p);
+    long_names::put_strings(buffer, p);
     records::put_relocations(buffer, p);
 }
 

@@ -1,9 +1,13 @@
 // Cases as lines of text: words with one space between them, the numbers decimal or behind `0x`, the bytes as pairs of hexadecimal digits. What the
 // test programs share: they read a line, write it again, and behind it the answer.
+mod buffers;
 mod crc;
 mod say;
-mod storage;
 
+pub use buffers::buffer;
+pub use buffers::few;
+pub use buffers::kept;
+pub use buffers::least;
 pub use crc::crc32;
 pub use say::address;
 pub use say::answer;
@@ -18,10 +22,6 @@ pub use say::refused;
 pub use say::signed;
 pub use say::text;
 pub use say::yes;
-pub use storage::buffer;
-pub use storage::few;
-pub use storage::kept;
-pub use storage::least;
 ghost use Prim.Native.Nat.{_≤_};
 
 // The end of the line that starts at `from`.

@@ -12,7 +12,7 @@ use Rattle.kinds.specs.declared.Place.the-variants.{In, Undefined, Common, Abso
 use Rattle.object.specs.Symbol.{symbolPlace, allSymbols}
 use Rattle.layout.specs.Layout.{mappedPages}
 
--- 7: no symbol's section number is above the count
+-- a place that is a section is one of the n; any other passes
 abbrev pub placeWithin : ℕ → Place → Bool
 placeWithin n (In k) = leb k n
 placeWithin n Undefined = true
@@ -21,9 +21,11 @@ placeWithin n Absolute = true
 placeWithin n Nowhere = true
 placeWithin n Other = true
 
+-- symbol j's section number is not above the count
 abbrev pub numberOk : List ℕ → Header → ℕ → Bool
 numberOk f h j = placeWithin (h .sections) (symbolPlace f h j)
 
+-- 7: so of every symbol
 abbrev pub numbersOk : List ℕ → Header → Bool
 numbersOk f h = allSymbols numberOk f h
 

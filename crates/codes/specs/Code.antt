@@ -27,17 +27,19 @@ AUXILIARY = 1
 abbrev pub REFUSED : ℕ
 REFUSED = 2
 
--- the slot of its name, and the same where it puts its name among the externs
+-- the slot of its name, without putting it among the externs
 abbrev pub SLOT : ℕ
 SLOT = 3
 
+-- the same, putting it there
 abbrev pub EXTERN : ℕ
 EXTERN = 4
 
--- UNDEF by its name, and the same where it puts that name among the externs
+-- UNDEF by its name, which an unloaded section has too
 abbrev pub UNDEF-RECORD : ℕ
 UNDEF-RECORD = 5
 
+-- UNDEF by its name, putting it among the externs
 abbrev pub UNDEF-EXTERN : ℕ
 UNDEF-EXTERN = 6
 
@@ -45,23 +47,28 @@ UNDEF-EXTERN = 6
 abbrev pub NO-SLOT : ℕ
 NO-SLOT = 7
 
--- ---- those with a number behind them, below SPAN: the home of the section of that number, the record of the section at that place, that slot
+-- ---- those with a number below SPAN added to them
+-- how many numbers each has
 abbrev pub SPAN : ℕ
 SPAN = 0x4000
 
+-- the home of the section of that number, from 1
 abbrev pub HOMES : ℕ
 HOMES = 0x4000
 
+-- the start of the loaded section at that place of the file, from 0, found by its name
 abbrev pub RECORDS : ℕ
 RECORDS = 0x8000
 
+-- the slot of that number
 abbrev pub SLOTS : ℕ
 SLOTS = 0xC000
 
--- some file section, loaded or not, has that name
+-- section i has that name
 abbrev pub sectionIsNamed : List ℕ → Header → List ℕ → ℕ → Bool
 sectionIsNamed f h name i = sameBytes (sectionText f h i) name
 
+-- some file section, loaded or not, has it
 abbrev pub someSectionNamed : List ℕ → Header → List ℕ → Bool
 someSectionNamed f h name = anyTo (sectionIsNamed f h name) (h .sections)
 
@@ -84,9 +91,11 @@ ruleCode Name named = named
 ruleCode Refused named = REFUSED
 
 module _ (f : List ℕ) (h : Header) where
+  -- of a section looked for by a name
   abbrev pub codeByName : List ℕ → ℕ
   codeByName name = namedCode (namedRecord f h name) (someSectionNamed f h name)
 
+  -- of symbol j, by its kind and place, and by its name where the rule asks for it
   abbrev pub symbolCode : ℕ → ℕ
   symbolCode j = ruleCode (symbolRule f h j) (codeByName (symbolText f h j))
 

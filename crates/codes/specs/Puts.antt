@@ -81,7 +81,7 @@ module _ (f : List ℕ) (h : Header) where
   code-puts j =
       rw (own-puts (primary f h j) (symbolCode f h j), rule-puts (symbolRule f h j) (namedRecord f h (symbolText f h j)) (someSectionNamed f h (symbolText f h j)) (taken-loaded (symbolText f h j)))
 
--- ---- a list that has the codes of all records, and zeros behind them
+-- ---- what is put at the front of a list stands there
 pub front-at : (l vs : List ℕ) (j : ℕ) → j < length vs → j < length l → getD (splice l 0 vs) j 0 ≡ getD vs j 0
 front-at l vs j a b =
     let o : 0 + j ≡ j = omega arith in
@@ -92,13 +92,14 @@ zeros : (size j : ℕ) → getD {A = ℕ} (replicate size 0) j 0 ≡ 0
 zeros size j =
     ⊎-elim (λ p. List·getD-eq-default (replicate {A = ℕ} size 0) 0 {n = j} (rw (length-replicate {A = ℕ} size 0) p)) (λ p. getD-replicate {A = ℕ} size j 0 0 p) (le-or-lt size j)
 
-pub record Kept (f : List ℕ) (h : Header) (codes : List ℕ) : Type 0 where
+-- the codes of all records, and zeros behind them
+pub record CodesKept (f : List ℕ) (h : Header) (codes : List ℕ) : Type 0 where
   pub long : h .symbols ≤ length codes
   pub each : (j : ℕ) → getD codes j 0 ≡ pick (ltb j (h .symbols)) (codeOf f h j) 0
 
 module _ (f : List ℕ) (h : Header) (codes : List ℕ) where
   -- so is an array of zeros once it is filled
-  pub filled-kept : (size : ℕ) → h .symbols ≤ size → codes ≡ splice (replicate size 0) 0 (codesTo f h (h .symbols)) → Kept f h codes
+  pub filled-kept : (size : ℕ) → h .symbols ≤ size → codes ≡ splice (replicate size 0) 0 (codesTo f h (h .symbols)) → CodesKept f h codes
   unfolding pick
   filled-kept size k e =
       let l : length (codesTo f h (h .symbols)) ≡ h .symbols = length-list (codeOf f h) (h .symbols) in
@@ -113,7 +114,7 @@ module _ (f : List ℕ) (h : Header) (codes : List ℕ) where
       }
 
   -- it says which symbols put their names
-  pub puts-kept : Kept f h codes → putsIn codes ≡ puts f h
+  pub puts-kept : CodesKept f h codes → putsIn codes ≡ puts f h
   unfolding puts isSymbol pick
   puts-kept k =
       fun-ext (λ j. ⊎-elim (λ p. rw (k .each j, le-ltb j (h .symbols) p)) (λ p. rw (k .each j, lt-ltb j (h .symbols) p) (code-puts f h j)) (le-or-lt (h .symbols) j))

@@ -10,28 +10,37 @@ ghost use Rattle.util.specs.Pick.{pick};
 ghost use Rattle.le.specs.Le.{splice};
 ghost use Rattle.codes.specs.Code.{AUXILIARY, sectionIsNamed, someSectionNamed, codeByName, symbolCode, codesTo, isExtern, putsIn};
 
-// Codes that stand for one thing; 0 is no record.
+// Codes that stand for one thing; 0 is no record. This one: an auxiliary record, which is refused.
 const AUXILIARY: u16 = 1;
 
+// Refusal 10 for its kind and place.
 pub const REFUSED: u16 = 2;
 
+// The slot of its name, without putting it among the externs.
 pub const SLOT: u16 = 3;
 
+// The same, putting it there.
 pub const EXTERN: u16 = 4;
 
+// UNDEF by its name, which an unloaded section has too.
 pub const UNDEF_RECORD: u16 = 5;
 
+// UNDEF by its name, putting it among the externs.
 pub const UNDEF_EXTERN: u16 = 6;
 
+// A slot that is not there: K3.
 pub const NO_SLOT: u16 = 7;
 
-// Codes with a number behind them.
+// How many numbers each of the codes below has: a number below this is added to it.
 pub const SPAN: u32 = 0x4000;
 
+// The home of the section of that number, from 1.
 pub const HOMES: u32 = 0x4000;
 
+// The start of the loaded section at that place of the file, from 0, found by its name.
 pub const RECORDS: u32 = 0x8000;
 
+// The slot of that number.
 pub const SLOTS: u32 = 0xC000;
 
 // The code of record j, 0 past the records.

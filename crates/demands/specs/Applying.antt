@@ -26,9 +26,11 @@ writtenAt base fixes image (k ∷ ks) = writtenAt base fixes (fixed base fixes i
 abbrev pub plainCode : ℕ → ℕ → ℕ
 plainCode count position = pick (leb position count) 0 POSITION
 
+-- patch's answer then
 unfoldable pub plainAnswer : ℕ → Call → Patch
 plainAnswer count (patch number position) = patchAnswer (plainCode count position) count number position
 
+-- the answers to a list of calls, by the list's count alone
 unfoldable pub plainAnswers : ℕ → List Call → List Patch
 plainAnswers count [] = []
 plainAnswers count (c ∷ cs) = plainAnswer count c ∷ plainAnswers count cs

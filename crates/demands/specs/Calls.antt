@@ -29,18 +29,22 @@ applied count (c ∷ cs) = appliedBy count c ++ applied count cs
 
 -- ---- what patch's contract says of the same calls, one after another, each on the image that the one before left
 module _ (base : ℕ) (marks fixes : List ℕ) where
+  -- the image after a call
   unfoldable pub afterCall : List ℕ → Call → List ℕ
   afterCall image (patch number position) =
       patched (patchCode (length image) marks base fixes number position) base fixes image number position
 
+  -- its answer
   unfoldable pub answerTo : List ℕ → Call → Patch
   answerTo image (patch number position) =
       patchAnswer (patchCode (length image) marks base fixes number position) (fixCount fixes) number position
 
+  -- the image after all of them
   unfoldable pub afterCalls : List ℕ → List Call → List ℕ
   afterCalls image [] = image
   afterCalls image (c ∷ cs) = afterCalls (afterCall image c) cs
 
+  -- their answers, in order
   unfoldable pub answersTo : List ℕ → List Call → List Patch
   answersTo image [] = []
   answersTo image (c ∷ cs) = answerTo image c ∷ answersTo (afterCall image c) cs

@@ -14,19 +14,23 @@ use Rattle.lists.specs.Relocations.{fixTable}
 use Rattle.image.specs.Laid.{laidImage}
 use Rattle.marks.specs.Marks.{wordsFor, markBytes}
 
+-- how many pages are mapped
 abbrev pub pagesOf : List ℕ → ℕ
 pagesOf f = mappedPages f (headerOf f)
 
--- the laid image, over zero pages; the marks of its pages; the fix list at the base
+-- the laid image, over zero pages
 abbrev pub imageOf : List ℕ → ℕ → List ℕ
 imageOf f base = laidImage f (headerOf f) base (length (externs f (headerOf f))) (replicate (PAGE-SIZE * pagesOf f) 0)
 
+-- the marks of its pages
 abbrev pub marksOf : List ℕ → List ℕ
 marksOf f = markBytes (pagesOf f) (wordsFor (pagesOf f))
 
+-- the fix list at the base
 abbrev pub fixTableOf : List ℕ → ℕ → List ℕ
 fixTableOf f base = fixTable base (outcomes f (headerOf f)) (relocationCount f (headerOf f)) (headerOf f .sections)
 
+-- the section table at the base
 abbrev pub sectionsOf : List ℕ → ℕ → List ℕ
 sectionsOf f base = sectionTable f (headerOf f) base (startsTo f (headerOf f) (headerOf f .sections)) (undefStart f (headerOf f))
 
@@ -42,8 +46,10 @@ pub record Lent : Type 0 where
   pub sections : List ℕ
   pub externs : List ℕ
 
+-- the record of the five
 abbrev pub lent : List ℕ → List ℕ → List ℕ → List ℕ → List ℕ → Lent
 lent image marks fixes sections externs = record { image = image; marks = marks; fixes = fixes; sections = sections; externs = externs }
 
+-- as an accepted load leaves them
 abbrev pub lentOf : List ℕ → ℕ → Lent
 lentOf f base = lent (imageOf f base) (marksOf f) (fixTableOf f base) (sectionsOf f base) (externsOf f base)

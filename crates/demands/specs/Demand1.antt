@@ -19,14 +19,17 @@ use Rattle.survey.specs.SurveyLaws.{check-holds, checks-hold, ordered, ordered-
 use Rattle.checks.specs.Checks.{baseOk}
 use Rattle.load.specs.declared.answer.Load.{Load}
 use Rattle.load.specs.declared.answer.Load.the-variants as load
-use Rattle.load.specs.Load.{Storage, roomOk, stored, loadChecks, loadAnswer, Loads}
+use Rattle.storage.specs.Storage.{Storage, stored}
+use Rattle.load.specs.Load.{roomOk, loadChecks, loadAnswer, Loads}
 use Rattle.load.specs.LoadLaws.{load-refused, load-tells-refused}
 
 -- ---- the first of a list of checks that fails, and its number
+-- every check passes
 abbrev pub AllPass : List Check → Type 0
 AllPass [] = Unit {0}
 AllPass (c ∷ cs) = (c .passes ≡ true) × AllPass cs
 
+-- n is the number of a check that fails, and all before it in the list pass
 pub record FirstFailure (cs : List Check) (n : ℕ) : Type 0 where
   pub before : List Check
   pub failed : Check

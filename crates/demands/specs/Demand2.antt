@@ -73,13 +73,16 @@ unfoldable pub standardValue : RelocationKind → ℕ → ℕ → ℕ → ℕ �
 standardValue kind addend base symbol place field start = (symbol + field + addend + (2 ^ 64 - takenAway kind base place start)) % 2 ^ 64
 
 -- ---- of a file: where the section starts that a symbol's own number names; a symbol of no section stands at its name's slot
+-- a slot's offset; 0 where there is none
 abbrev pub slotStart : List ℕ → Found → ℕ
 slotStart f (Index e) = undefStart f (headerOf f) + SLOT-SIZE * e
 slotStart f Nothing = 0
 
+-- the offset of the slot of symbol j's name
 abbrev pub slotNamed : List ℕ → ℕ → ℕ
 slotNamed f j = slotStart f (slotOf f (headerOf f) (externs f (headerOf f)) (symbolText f (headerOf f) j))
 
+-- what symbol j's value is counted from, by its place
 abbrev pub startBy : List ℕ → ℕ → Place → ℕ
 startBy f j (places.In n) = startAt f (headerOf f) (n - 1)
 startBy f j places.Undefined = slotNamed f j
@@ -88,14 +91,17 @@ startBy f j places.Absolute = slotNamed f j
 startBy f j places.Nowhere = slotNamed f j
 startBy f j places.Other = slotNamed f j
 
+-- the same, by its record
 abbrev pub symbolStart : List ℕ → ℕ → ℕ
 symbolStart f j = startBy f j (symbolPlace f (headerOf f) j)
 
 -- ---- relocation k of section i, both from 0
 module _ (f : List ℕ) (i k : ℕ) where
+  -- the number of the symbol that it names
   abbrev pub named : ℕ
   named = relocationSymbol f (headerOf f) i k
 
+  -- its type, on the file's machine
   abbrev pub typeNamed : RelocationType
   typeNamed = typeOf (archBy (archOf (headerOf f .machine))) (relocationType f (headerOf f) i k)
 
@@ -140,6 +146,7 @@ Direct rules.Slot = ⊥
 Direct rules.Name = ⊥
 Direct rules.Refused = ⊥
 
+-- a relocation as our modules have them: sections their own homes, an absolute or relative type, symbol value and field 0
 pub record Stays (f : List ℕ) (i k : ℕ) : Type 0 where
   pub place-own : OwnHome f i
   pub symbol-own : OwnPlace f (symbolPlace f (headerOf f) (named f i k))

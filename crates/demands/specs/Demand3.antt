@@ -41,10 +41,11 @@ use Rattle.demands.specs.Laying.{in-range, laid-byte}
 use Rattle.demands.specs.Moving.{origin-same}
 use Rattle.demands.specs.Reading.{RangeRead, UndefRead, range-read, undef-is-read, slot-is-read}
 
--- the image, and the answers, once the calls are made on what is lent
+-- the image once the calls are made on what is lent
 abbrev pub imageAfter : ℕ → Lent → List Call → List ℕ
 imageAfter base t calls = afterCalls base (t .marks) (t .fixes) (t .image) calls
 
+-- their answers
 abbrev pub answersAfter : ℕ → Lent → List Call → List Patch
 answersAfter base t calls = answersTo base (t .marks) (t .fixes) (t .image) calls
 
@@ -90,6 +91,7 @@ pub record AtBoth (f : List ℕ) (b₁ b₂ : ℕ) (t₁ t₂ : Lent) (calls : L
   pub others : (k : ℕ) → k < length (fixupsOf f) → isRelative (fixupAt f k .kind) ≡ false → fixupValue f b₂ k + b₁ ≡ fixupValue f b₁ k + b₂
   pub slots : (e : ℕ) → slotValue f b₂ e + b₁ ≡ slotValue f b₁ e + b₂
 
+-- the whole demand, of two loads of one file and the same calls at both
 pub record Demand3 (f : List ℕ) (b₁ b₂ : ℕ) (t₁ t₂ : Lent) (calls : List Call) : Type 0 where
   pub one : AtLoad f b₁ t₁ calls
   pub other : AtLoad f b₂ t₂ calls

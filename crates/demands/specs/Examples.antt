@@ -12,6 +12,7 @@ use Rattle.util.specs.Pick.{pick}
 use Rattle.arch.specs.Page.{PAGE-SIZE}
 use Rattle.arch.specs.Machine.{archOf}
 use Rattle.util.specs.Prefix.{listTo}
+use Rattle.util.specs.Fold.{foldRecords, foldSections}
 use Rattle.le.specs.Le.{get, le, part}
 use Rattle.object.specs.Format.{headerOf}
 use Rattle.kinds.specs.Types.{type32, typeOf}
@@ -24,11 +25,11 @@ use Rattle.names.specs.Name.{leftFrom, longSpan, spanAt}
 use Rattle.homes.specs.Home.{firstIn, isHome, homeStart, sectionHome, byNumber}
 use Rattle.layout.specs.Layout.{startAt}
 use Rattle.limits.specs.Limits.{FIXUP-BYTES, SKIP-BYTES, EXTERN-BYTES, SYMBOL-BYTES, SECTION-BYTES}
-use Rattle.externs.specs.Externs.{insertName, externRecords, externsTo}
+use Rattle.externs.specs.Externs.{insertName, externStep}
 use Rattle.codes.specs.Puts.{putsBy, puts}
 use Rattle.externs.specs.Slot.{slotFrom}
-use Rattle.fixups.specs.Lists.{overRecords, overSections, fixAtRecord}
-use Rattle.fixups.specs.Outcome.{byKind, resolved, byHome, outcome}
+use Rattle.fixups.specs.Lists.{appendStep, fixAtRecord}
+use Rattle.fixups.specs.Outcome.{byKind, resolved, outcomeAt, outcome}
 use Rattle.targets.specs.Target.{homeTarget, slotTarget, ruleTarget, targetOf}
 use Rattle.object.specs.Relocation.{relocationIn}
 use Rattle.survey.specs.declared.answer.Counts.{Counts}
@@ -39,8 +40,9 @@ use Rattle.marks.specs.Marks.{WORD-BYTES, wordsFor}
 use Rattle.checks.specs.Checks.{baseOk}
 use Rattle.load.specs.declared.answer.Load.{Load}
 use Rattle.load.specs.declared.answer.Load.the-variants as load
-use Rattle.load.specs.Load.{Storage, layoutRoom, listsRoom, roomOk, stored, loadChecks, loadAnswer, Loads}
-use Rattle.load.specs.Loading.{storage}
+use Rattle.plan.specs.Plan.{layoutRoom, listsRoom}
+use Rattle.storage.specs.Storage.{Storage, storage, stored}
+use Rattle.load.specs.Load.{roomOk, loadChecks, loadAnswer, Loads}
 use Rattle.demands.specs.Calls.{Call}
 use Rattle.demands.specs.Origin.{fixupAt, fixupValue}
 use Rattle.demands.specs.Demand2.{standardAt, From, Stays, standard-of-file}
@@ -50,10 +52,12 @@ use Rattle.demands.specs.Running.{RunOfLoad, runs-are}
 use Rattle.demands.specs.Table.{smallObject, smallWith, smallCounts, table}
 use Rattle.demands.specs.Demand1.{FirstFailure, survey-refuses, Refuses, load-refuses, load-does}
 
--- ---- load's contract is met for every file, base and storage, by this answer and these contents
+-- ---- load's contract is met for every file, base and storage
+-- by this answer
 abbrev pub loadSays : List ℕ → ℕ → Storage → Load
 loadSays f base s = loadAnswer (firstFailed (loadChecks f (headerOf f) base s)) (counts f (headerOf f))
 
+-- and these contents
 abbrev pub leftBy : List ℕ → ℕ → Storage → Storage
 leftBy f base s = pick (eqb (firstFailed (loadChecks f (headerOf f) base s)) 0) (stored f (headerOf f) base s) s
 
@@ -102,10 +106,11 @@ accepted-loads f base s c a b r =
     let d = load-does f base s (leftBy f base s) c a b r (loadSays f base s) (loads-exists f base s) in
     record { says = sym (d .says); leaves = sym (d .leaves) }
 
--- so is the small object, at 0x20000000 and at the highest base
+-- so is the small object, at 0x20000000 and at the highest base: with just enough room
 abbrev pub smallStorage : Storage
 smallStorage = roomy smallCounts
 
+-- what the load leaves there
 abbrev pub smallLeft : ℕ → Storage
 smallLeft base = stored smallObject (headerOf smallObject) base smallStorage
 
@@ -113,12 +118,15 @@ small-base : baseOk 0x20000000 ≡ true
 unfolding baseOk
 small-base = refl
 
+-- at 0x20000000
 pub small-loads : Loads smallObject 0x20000000 smallStorage (smallLeft 0x20000000) (load.Loaded smallCounts)
 small-loads = accepted-loads smallObject 0x20000000 smallStorage smallCounts (table .small) small-base (roomy-fits smallCounts)
 
+-- at the highest base
 pub small-loads-highest : Loads smallObject 0x7F000000 smallStorage (smallLeft 0x7F000000) (load.Loaded smallCounts)
 small-loads-highest = accepted-loads smallObject 0x7F000000 smallStorage smallCounts (table .small) (table .base-taken) (roomy-fits smallCounts)
 
+-- what later calls are given is the counted parts
 pub small-lends : Lends smallObject 0x20000000 (smallLeft 0x20000000) smallCounts
 small-lends = load-lends smallObject 0x20000000 smallStorage (smallLeft 0x20000000) smallCounts small-loads
 
@@ -138,10 +146,10 @@ small-runs calls answers =
 
 -- ---- the small object's fixup, from relocation 0 of section 0: relative, by an extern name of value 0, over a field of zeros, in a section that is its own home
 pub small-standard : standardAt smallObject 0 0 0x20000000 ≡ fixupValue smallObject 0x20000000 0
-unfolding pick listTo archOf get le part headerOf type32 typeOf loadedBy fileStart fileEnd
+unfolding pick listTo foldRecords foldSections archOf get le part headerOf type32 typeOf loadedBy fileStart fileEnd
     extended relocationRecords relocationCount relocationStart isFunction codeOrData kindBy zeroPlace placeBy leftAfter auxiliariesLeft primary isSymbol
     upToZero sameBytes leftFrom longSpan spanAt firstIn isHome homeStart sectionHome byNumber startAt
-    insertName externRecords externsTo putsBy puts slotFrom overRecords overSections fixAtRecord byKind resolved byHome outcome relocationIn ruleTarget targetOf
+    insertName externStep putsBy puts slotFrom appendStep fixAtRecord byKind resolved outcomeAt outcome relocationIn ruleTarget targetOf
     homeTarget slotTarget
 small-standard =
     let r : From smallObject (fixupAt smallObject 0) = record { section = 0; index = 0; inside = omega arith; counted = omega arith; is = refl } in

@@ -20,8 +20,10 @@ use Rattle.marks.specs.Marks.{WORD-BYTES, wordsFor}
 use Rattle.image.specs.Laid.{laidImage}
 use Rattle.image.specs.LaidLaws.{length-laid}
 use Rattle.checks.specs.Checks.{baseOk}
-use Rattle.load.specs.Load.{Storage, Loads}
-use Rattle.load.specs.LoadLaws.{load-accepts, load-leaves, rooms, pages-counted}
+use Rattle.storage.specs.Storage.{Storage}
+use Rattle.load.specs.Load.{Loads}
+use Rattle.plan.specs.PlanLaws.{rooms}
+use Rattle.load.specs.LoadLaws.{load-accepts, load-leaves, pages-counted}
 use Rattle.demands.specs.Origin.{slotsOf}
 use Rattle.demands.specs.Calls.{Call}
 use Rattle.demands.specs.Counted.{pagesOf, imageOf, marksOf, fixTableOf, sectionsOf, externsOf, Lent, lent, lentOf}

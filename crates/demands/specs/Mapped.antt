@@ -14,7 +14,7 @@ use Rattle.util.specs.Prefix.{all-of}
 use Rattle.le.specs.Le.{splice, splice-front}
 use Rattle.arch.specs.Page.{PAGE-SIZE}
 use Rattle.pagemap.specs.Pages.{storageOk, spanMapped}
-use Rattle.aspace.specs.Space.{reached, spanAt}
+use Rattle.aspace.specs.Space.{reached, spanMappedAt}
 use Rattle.object.specs.Format.{headerOf}
 use Rattle.object.specs.Section.{relocationCount}
 use Rattle.limits.specs.Limits.{MAX-PAGES, MAX-BASE, FIXUP-BYTES}
@@ -86,8 +86,8 @@ module _ (f : List ℕ) (base : ℕ) (low : base ≤ MAX-BASE) (few : pagesOf f 
   stored-well =
       subst (λ (m : List ℕ). storageOk (PAGE-SIZE * pagesOf f) (length m) ≡ true) (splice-self (marksOf f)) (mark-storage (pagesOf f) (marksOf f) marks-room)
 
-  span-at : (o n : ℕ) → 0 < n → n ≤ 8 → o + n ≤ PAGE-SIZE * pagesOf f → spanAt (PAGE-SIZE * pagesOf f) (marksOf f) base (base + o) n ≡ true
-  unfolding spanAt reached
+  span-at : (o n : ℕ) → 0 < n → n ≤ 8 → o + n ≤ PAGE-SIZE * pagesOf f → spanMappedAt (PAGE-SIZE * pagesOf f) (marksOf f) base (base + o) n ≡ true
+  unfolding spanMappedAt reached
   span-at o n p w h =
       let d : base + o - base ≡ o = omega arith in
       let a : leb base (base + o) ≡ true = le-leb base (base + o) (omega arith) in

@@ -27,6 +27,7 @@ pub data Origin : Type 0 where
   fileByte : ℕ → Origin
   zeroByte : Origin
 
+-- the first if there is one, else the second
 abbrev pub orElse : Option ℕ → Option ℕ → Option ℕ
 orElse none y = y
 orElse (some x) y = some x
@@ -36,16 +37,19 @@ unfoldable pub firstBelow : (ℕ → Bool) → ℕ → Option ℕ
 firstBelow p zero = none
 firstBelow p (suc n) = orElse (firstBelow p n) (pick (p n) (some n) none)
 
--- the load's lists: fixups, and how many slots
+-- the load's fixups, in list order
 abbrev pub fixupsOf : List ℕ → List Fix
 fixupsOf f = fixList (outcomes f (headerOf f)) (relocationCount f (headerOf f)) (headerOf f .sections)
 
+-- what stands past the list's end
 abbrev pub noFixup : Fix
 noFixup = record { place = rva 0; bits = 0; kind = Unknown; target = rva 0; addend = 0 }
 
+-- fixup k, from 0
 abbrev pub fixupAt : List ℕ → ℕ → Fix
 fixupAt f k = getD (fixupsOf f) k noFixup
 
+-- how many slots there are
 abbrev pub slotsOf : List ℕ → ℕ
 slotsOf f = length (externs f (headerOf f))
 
@@ -72,19 +76,24 @@ module _ (f : List ℕ) (base : ℕ) where
   latest a (k ∷ ks) = orElse (latest a ks) (pick (covers a k) (some k) none)
 
   -- ---- slots: slot e is 4 bytes at UNDEF + 4 e
+  -- where UNDEF starts
   abbrev pub undefAddress : ℕ
   undefAddress = base + undefStart f (headerOf f)
 
+  -- a slot covers a
   unfoldable pub inSlots : ℕ → Bool
   inSlots a = leb undefAddress a && ltb a (undefAddress + SLOT-SIZE * slotsOf f)
 
+  -- a slot holds its own address
   abbrev pub slotValue : ℕ → ℕ
   slotValue e = undefAddress + SLOT-SIZE * e
 
   -- ---- sections: the loaded one whose range holds a
+  -- where section i starts
   abbrev pub sectionAddress : ℕ → ℕ
   sectionAddress i = base + startAt f (headerOf f) i
 
+  -- section i is loaded, and its range holds a
   unfoldable pub inSection : ℕ → ℕ → Bool
   inSection a i =
       loaded f (headerOf f) i && (leb (sectionAddress i) a && ltb a (sectionAddress i + rangeLength f (headerOf f) i))
@@ -97,17 +106,20 @@ module _ (f : List ℕ) (base : ℕ) where
       (fileByte (fileStart f (headerOf f) i + (a - sectionAddress i)))
       zeroByte
 
-  -- ---- the laid byte's origin, and that of a byte once the fixups ks are applied, the latest last
+  -- ---- the origin of the byte at a
+  -- as load lays it: a slot's, else the section's
   unfoldable pub laidOrigin : ℕ → Origin
   laidOrigin a =
       pick (inSlots a)
       (slotByte ((a - undefAddress) / SLOT-SIZE) ((a - undefAddress) % SLOT-SIZE))
       (fileOrigin a (firstBelow (inSection a) (headerOf f .sections)))
 
+  -- by the latest applied fixup that covers a; else as laid
   unfoldable pub originBy : ℕ → Option ℕ → Origin
   originBy a none = laidOrigin a
   originBy a (some k) = fixupByte k (a - fixupPlace k)
 
+  -- once the fixups ks are applied, the latest last
   abbrev pub origin : List ℕ → ℕ → Origin
   origin ks a = originBy a (latest a ks)
 

@@ -81,6 +81,7 @@ module _ (f : List ℕ) (c : Counts) (accepted : surveyOf f ≡ Accepted c) (bas
         subst (λ (t : List ℕ). SectionAt t (SECTION-BYTES * recordOf f h i) f h base (startsTo f h (h .sections)) i) (splice-self (sectionsOf f base))
         (section-read f h base (startsTo f h (h .sections)) (undefStart f h) (sectionsOf f base) sections-room i inside loads)
 
+    -- the record of each loaded section has its range and its file range
     pub range-read : RangeRead f base (sectionsOf f base) i
     range-read =
         let w = section-words in
@@ -103,6 +104,7 @@ module _ (f : List ℕ) (c : Counts) (accepted : surveyOf f ≡ Accepted c) (bas
       subst (λ (t : List ℕ). UndefAt t (SECTION-BYTES * recordOf f h (h .sections)) base (undefStart f h)) (splice-self (sectionsOf f base))
       (undef-read f h base (startsTo f h (h .sections)) (undefStart f h) (sectionsOf f base) (omega arith))
 
+  -- and the last one UNDEF's page
   pub undef-is-read : UndefRead f base (sectionsOf f base)
   undef-is-read =
       let w = undef-words in

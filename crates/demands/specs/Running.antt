@@ -24,9 +24,11 @@ use Rattle.demands.specs.Demand3.{appliedTo, answersAfter, Demand3, dema
 abbrev pub CALL-BYTES : ℕ
 CALL-BYTES = 16
 
+-- call k, from 0
 abbrev pub callAt : List ℕ → ℕ → Call
 callAt words k = patch (get 8 words (CALL-BYTES * k)) (get 8 words (CALL-BYTES * k + 8))
 
+-- the first k calls
 unfoldable pub callsTo : List ℕ → ℕ → List Call
 callsTo words zero = []
 callsTo words (suc k) = callsTo words k ++ (callAt words k ∷ [])
@@ -35,10 +37,12 @@ callsTo words (suc k) = callsTo words k ++ (callAt words k ∷ [])
 abbrev pub ANSWER-BYTES : ℕ
 ANSWER-BYTES = 24
 
+-- the three words of one answer
 unfoldable pub answerWords : Patch → List ℕ
 answerWords (Applied p) = 0 ∷ p .position ∷ pick (p .done) 1 0 ∷ []
 answerWords (Refused n) = n ∷ 0 ∷ 0 ∷ []
 
+-- of all answers, one behind another
 unfoldable pub answerBytes : List Patch → List ℕ
 answerBytes [] = []
 answerBytes (a ∷ l) = wordBytes (answerWords a) ++ answerBytes l

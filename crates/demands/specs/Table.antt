@@ -1,8 +1,9 @@
--- 01's table of single facts ("A small object" and below), each over the definitions that the contracts use; all but three are computed on an object.
-use mathlib.Core.Path.{_≡_, refl}
+-- 01's table of single facts ("A small object" and below), each over the definitions that the contracts use. What an object can show is shown on
+-- one: computed, or where it is long by the laws of `examples`.
+use mathlib.Core.Path.{_≡_, refl, ap, _∙_}
 use mathlib.Core.Bool.{true}
 use mathlib.Core.List.{List, [], _∷_, _++_}
-use Prim.Native.Nat.{ℕ, _+_, _-_, _*_}
+use Prim.Native.Nat.{ℕ, _+_, _*_}
 use native.Mathlib.Omega.{arith}
 use lib.ListN.{length, getD}
 use Rattle.arch.specs.declared.Arch.the-variants.{X64}
@@ -10,24 +11,26 @@ use Rattle.arch.specs.Address.{rva}
 use Rattle.survey.specs.declared.answer.Counts.{Counts}
 use Rattle.survey.specs.declared.answer.Survey.the-variants.{Accepted, Refused}
 use Rattle.survey.specs.Survey.{surveyOf, externChecks, firstFailed, countsBy, answerBy}
-use Rattle.fixups.specs.Outcome.{fixOf, byKind, resolved, byHome, outcome}
+use Rattle.fixups.specs.Outcome.{fixOf, byKind, resolved, outcomeAt, outcome}
 use Rattle.tables.specs.Sections.{sectionWords, undefWords}
 use Rattle.symbol_table.specs.Symbols.{symbolWords}
 use Rattle.tables.specs.Externs.{externWords}
 use Rattle.lists.specs.Relocations.{fixWords}
-use Rattle.externs.specs.Externs.{externs, insertName, externRecords, externsTo}
+use Rattle.externs.specs.Externs.{externs, insertName, externStep}
 use Rattle.layout.specs.Layout.{undefStart, nextStart, startAt, startsTo}
 use Rattle.good_names.specs.GoodNames.{namesOk}
 use Rattle.checks.specs.Checks.{baseOk}
-use Rattle.load.specs.Load.{Storage, loadChecks}
+use Rattle.storage.specs.Storage.{Storage}
+use Rattle.load.specs.Load.{loadChecks}
 use Rattle.demands.specs.Calls.{Call, patch, asked, appliedBy, applied}
-use Rattle.demands.specs.Origin.{fixupAt, fixupValue, slotValue, undefAddress, covers, latest, originBy, byteOf}
+use Rattle.demands.specs.Origin.{noFixup, fixupAt, fixupValue, slotValue, undefAddress, covers, latest, originBy, byteOf}
 use Rattle.demands.specs.Counted.{lentOf}
 use Rattle.demands.specs.Demand2.{standardValue, standardAt}
 use Rattle.demands.specs.Demand3.{imageAfter, Demand3, demand-3}
 use Rattle.util.specs.Align.{roundUp}
 use Rattle.util.specs.Pick.{pick}
-use Rattle.util.specs.Prefix.{allTo, anyTo, sumTo, countTo, listTo}
+use Rattle.util.specs.Prefix.{allTo, anyTo, sumTo, countTo, listTo, list-at}
+use Rattle.util.specs.Fold.{foldRecords, foldSections}
 use Rattle.arch.specs.Machine.{archOf}
 use Rattle.le.specs.Le.{get, le, part}
 use Rattle.object.specs.Format.{headerOf, stringLength}
@@ -44,11 +47,14 @@ use Rattle.homes.specs.Home.{firstIn, isHome, homeOf, loadedNamed, homeStart, h
 use Rattle.bounds.specs.Bounds.{sizeOk, sectionTableOk, stringsOk, symbolTableOk, bytesOk, dataOk, relocationsOk, sectionsOk}
 use Rattle.codes.specs.Puts.{putsBy, puts}
 use Rattle.externs.specs.Slot.{slotFrom}
-use Rattle.fixups.specs.Lists.{overRecords, overSections, fixAtRecord, skipAtRecord}
-use Rattle.fixups.specs.Tally.{passes, countIn, tallyOf}
+use Rattle.fixups.specs.Lists.{appendStep, fixAtRecord, skipAtRecord}
+use Rattle.fixups.specs.Tally.{countStep, tallyOf}
 use Rattle.targets.specs.Target.{homeTarget, slotTarget, namedTarget, ruleTarget, targetOf}
 use Rattle.object.specs.Relocation.{relocationIn}
 use Rattle.fixups.specs.Value.{valueOf}
+use Rattle.fixups.specs.declared.Fix.{Fix}
+use Rattle.examples.specs.NamesObject.{namesObject, namesFix}
+use Rattle.examples.specs.SurveyLaws.{names-accepted, names-refused, names-words, names-fixes}
 use Rattle.homes.specs.Listed.{ofPlace, offsetFrom, listed}
 
 -- ---- the small object, with its relocation at a given offset of .text
@@ -64,13 +70,16 @@ smallWith offset =
     ∷ 95 ∷ 112 ∷ 117 ∷ 114 ∷ 115 ∷ 101 ∷ 0 ∷ 0 ∷ 0 ∷ 0 ∷ 0 ∷ 0 ∷ 0 ∷ 0 ∷ 32 ∷ 0 ∷ 2 ∷ 0
     ∷ 4 ∷ 0 ∷ 0 ∷ 0 ∷ []))
 
+-- 01's small object: the relocation at offset 1
 abbrev pub smallObject : List ℕ
 smallObject = smallWith 1
 
--- ---- an empty i386 header, and an i386 object of one uninitialised section, of a size and an alignment code
+-- ---- objects for the single facts
+-- an i386 header and nothing else
 abbrev pub emptyObject : List ℕ
 emptyObject = 0x4C ∷ 0x01 ∷ 0 ∷ 0 ∷ 0 ∷ 0 ∷ 0 ∷ 0 ∷ 0 ∷ 0 ∷ 0 ∷ 0 ∷ 0 ∷ 0 ∷ 0 ∷ 0 ∷ 0 ∷ 0 ∷ 0 ∷ 0 ∷ []
 
+-- an i386 object of one uninitialised section, of a size and an alignment code
 abbrev pub sized : ℕ → ℕ → List ℕ
 sized size code =
     0x4C ∷ 0x01 ∷ 1 ∷ 0 ∷ 0 ∷ 0 ∷ 0 ∷ 0 ∷ 0 ∷ 0 ∷ 0 ∷ 0 ∷ 0 ∷ 0 ∷ 0 ∷ 0 ∷ 0 ∷ 0 ∷ 0 ∷ 0
@@ -79,6 +88,7 @@ sized size code =
     ++ (0 ∷ 0 ∷ 0 ∷ 0 ∷ 0 ∷ 0 ∷ 0 ∷ 0 ∷ 0 ∷ 0 ∷ 0 ∷ 0 ∷ 0 ∷ 0 ∷ 0 ∷ 0
     ∷ 0x80 ∷ 0 ∷ (16 * code) ∷ 0xC0 ∷ []))
 
+-- the range length of a file's first section
 abbrev pub rangeOf : List ℕ → ℕ
 rangeOf f = rangeLength f (headerOf f) 0
 
@@ -110,8 +120,29 @@ countsWith p s y e x n m r =
       relocations = r;
     }
 
+-- what survey answers for the small object
 abbrev pub smallCounts : Counts
 smallCounts = countsWith 3 2 1 1 1 1 2 1
+
+-- ---- an object of as many names as there may be, each in one relocation
+abbrev pub mostNames : List ℕ
+mostNames = namesObject 1024 1024
+
+-- the words of its last extern name
+abbrev pub lastName : ℕ → List ℕ
+lastName base = externWords mostNames (headerOf mostNames) base (undefStart mostNames (headerOf mostNames)) (externs mostNames (headerOf mostNames)) 1023
+
+most-slot : (base : ℕ) → lastName base ≡ (undefAddress mostNames base + 4092) ∷ 1023 ∷ 32810 ∷ 3 ∷ []
+most-slot base = names-words 1024 1024 (omega arith) (omega arith) (omega arith) (omega arith) base 1023 (omega arith)
+
+most-fixup : fixupAt mostNames 1023 ≡ namesFix 1024 1024 1023
+most-fixup =
+    ap (λ (l : List Fix). getD l 1023 noFixup) (names-fixes 1024 1024 (omega arith) (omega arith) (omega arith) (omega arith))
+    ∙ list-at (namesFix 1024 1024) noFixup 1024 1023 (omega arith)
+
+most-words : fixWords 0x20000000 (fixupAt mostNames 1023) ≡ 0x20000FFC ∷ 32 ∷ 0x20001FFC ∷ []
+unfolding fixWords valueOf pick
+most-words = ap (fixWords 0x20000000) most-fixup
 
 -- ---- the table
 pub record Table : Type 0 where
@@ -134,10 +165,16 @@ pub record Table : Type 0 where
   -- 4,094 section pages are accepted, 4,095 refused: 8
   pub pages-4094 : surveyOf (sized (4096 * 4094) 1) ≡ Accepted (countsWith 4096 2 0 0 0 1 0 0)
   pub pages-4095 : surveyOf (sized (4096 * 4095) 1) ≡ Refused 8
-  -- 1,024 names pass, one more is 9; the last slot is at UNDEF + 4,092
-  pub names-1024 : firstFailed (externChecks 1024) ≡ 0
-  pub names-1025 : firstFailed (externChecks 1025) ≡ 9
-  pub last-slot : (f : List ℕ) (base : ℕ) → slotValue f base (1024 - 1) ≡ undefAddress f base + 4092
+  -- 1,024 names are accepted, 1,025 refused: 9
+  pub names-1024 : surveyOf mostNames ≡ Accepted (countsWith 3 2 0 1024 1024 1 1024 1024)
+  pub names-1025 : surveyOf (namesObject 1025 1025) ≡ Refused 9
+  -- the last slot is at UNDEF + 4,092, with symbol 1,023; the last fixup takes its address
+  pub last-slot : (base : ℕ) → lastName base ≡ (undefAddress mostNames base + 4092) ∷ 1023 ∷ 32810 ∷ 3 ∷ []
+  pub last-fixup : fixWords 0x20000000 (fixupAt mostNames 1023) ≡ 0x20000FFC ∷ 32 ∷ 0x20001FFC ∷ []
+  -- the same of any file with so many
+  pub check-1024 : firstFailed (externChecks 1024) ≡ 0
+  pub check-1025 : firstFailed (externChecks 1025) ≡ 9
+  pub slot-1023 : (f : List ℕ) (base : ℕ) → slotValue f base 1023 ≡ undefAddress f base + 4092
   -- x64 type 9 from 0x20000010 to 0x20001000
   pub type-9 : valueOf 0x20000000 (fixOf (typeOf X64 9) (rva 0x10) (rva 0x1000)) ≡ 4071
   -- base 0x7F000000 is taken, 0x7F001000 refused, whatever the file and the storage: 12
@@ -147,14 +184,15 @@ pub record Table : Type 0 where
   pub last-place : surveyOf (smallWith 12284) ≡ Accepted smallCounts
   pub past-the-end : surveyOf (smallWith 12285) ≡ Refused 11
 
+-- each of these facts holds
 pub table : Table
 unfolding roundUp pick allTo anyTo sumTo countTo listTo archOf get le part headerOf stringLength type32 type64 typeOf loadedBy alignOf permissionsBy fileStart fileEnd
     rangeLength extended relocationRecords relocationCount relocationStart isFunction codeOrData staticKind kindBy zeroPlace placeBy listedBy primary
     run upToZero goodSectionName goodSymbolName decimalTo compareBytes sameBytes nameBytes longRun symbolRun slashRun sectionRun checked leftFrom longSpan spanAt firstIn isHome
     loadedNamed homeStart homeRecord sectionHome byNumber nextStart startAt sizeOk sectionTableOk stringsOk symbolTableOk bytesOk dataOk relocationsOk sectionsOk
-    okAt namesOk insertName externRecords externsTo putsBy puts slotFrom overSections fixAtRecord skipAtRecord byKind resolved byHome outcome relocationIn ruleTarget targetOf
-    passes tallyOf homeTarget slotTarget namedTarget valueOf ofPlace offsetFrom listed firstFailed countsBy answerBy
-    overRecords countIn leftAfter auxiliariesLeft isSymbol sectionWords symbolWords
+    okAt namesOk insertName externStep putsBy puts slotFrom appendStep fixAtRecord skipAtRecord byKind resolved outcomeAt outcome relocationIn ruleTarget targetOf
+    countStep tallyOf homeTarget slotTarget namedTarget valueOf ofPlace offsetFrom listed firstFailed countsBy answerBy
+    foldRecords foldSections leftAfter auxiliariesLeft isSymbol sectionWords symbolWords
     externWords fixWords baseOk
 table =
     record {
@@ -172,9 +210,13 @@ table =
       size-4097-code-0 = refl;
       pages-4094 = refl;
       pages-4095 = refl;
-      names-1024 = refl;
-      names-1025 = refl;
-      last-slot = λ f base. omega arith;
+      names-1024 = names-accepted 1024 1024 (omega arith) (omega arith) (omega arith) (omega arith);
+      names-1025 = names-refused 1025 1025 (omega arith) (omega arith) (omega arith) (omega arith);
+      last-slot = most-slot;
+      last-fixup = most-words;
+      check-1024 = refl;
+      check-1025 = refl;
+      slot-1023 = λ f base. omega arith;
       type-9 = refl;
       base-taken = refl;
       base-refused = λ f s. refl;
@@ -193,9 +235,9 @@ unfolding roundUp pick allTo anyTo sumTo countTo listTo archOf get le part heade
     rangeLength extended relocationRecords relocationCount relocationStart isFunction codeOrData staticKind kindBy zeroPlace placeBy listedBy primary
     run upToZero goodSectionName goodSymbolName decimalTo compareBytes sameBytes nameBytes longRun symbolRun slashRun sectionRun checked leftFrom longSpan spanAt firstIn isHome
     loadedNamed homeStart homeRecord sectionHome byNumber nextStart startAt sizeOk sectionTableOk stringsOk symbolTableOk bytesOk dataOk relocationsOk sectionsOk
-    okAt namesOk insertName externRecords externsTo putsBy puts slotFrom overSections fixAtRecord skipAtRecord byKind resolved byHome outcome relocationIn ruleTarget targetOf
-    passes tallyOf homeTarget slotTarget namedTarget valueOf ofPlace offsetFrom listed firstFailed countsBy answerBy
-    overRecords countIn leftAfter auxiliariesLeft isSymbol sectionWords symbolWords
+    okAt namesOk insertName externStep putsBy puts slotFrom appendStep fixAtRecord skipAtRecord byKind resolved outcomeAt outcome relocationIn ruleTarget targetOf
+    countStep tallyOf homeTarget slotTarget namedTarget valueOf ofPlace offsetFrom listed firstFailed countsBy answerBy
+    foldRecords foldSections leftAfter auxiliariesLeft isSymbol sectionWords symbolWords
     externWords fixWords baseOk
     chosen asked appliedBy applied covers latest originBy byteOf
 small-patched = demand-3 smallObject smallCounts (table .small) 0x20000000 0x20000000 refl refl (patch 1 0 ∷ []) .one .bytes 1 (omega arith)
@@ -208,13 +250,14 @@ pub record SharedHome : Type 0 where
   pub ours : fixupValue twoUninitialized 0x20000000 0 ≡ 0x20000000
   pub standard : standardAt twoUninitialized 0 0 0x20000000 ≡ 0x20001000
 
+-- each of these holds
 pub shared-home : SharedHome
 unfolding roundUp pick allTo anyTo sumTo countTo listTo archOf get le part headerOf stringLength type32 type64 typeOf loadedBy alignOf permissionsBy fileStart fileEnd
     rangeLength extended relocationRecords relocationCount relocationStart isFunction codeOrData staticKind kindBy zeroPlace placeBy listedBy primary
     run upToZero goodSectionName goodSymbolName decimalTo compareBytes sameBytes nameBytes longRun symbolRun slashRun sectionRun checked leftFrom longSpan spanAt firstIn isHome
     loadedNamed homeStart homeRecord sectionHome byNumber nextStart startAt sizeOk sectionTableOk stringsOk symbolTableOk bytesOk dataOk relocationsOk sectionsOk
-    okAt namesOk insertName externRecords externsTo putsBy puts slotFrom overSections fixAtRecord skipAtRecord byKind resolved byHome outcome relocationIn ruleTarget targetOf
-    passes tallyOf homeTarget slotTarget namedTarget valueOf ofPlace offsetFrom listed firstFailed countsBy answerBy
-    overRecords countIn leftAfter auxiliariesLeft isSymbol sectionWords symbolWords
+    okAt namesOk insertName externStep putsBy puts slotFrom appendStep fixAtRecord skipAtRecord byKind resolved outcomeAt outcome relocationIn ruleTarget targetOf
+    countStep tallyOf homeTarget slotTarget namedTarget valueOf ofPlace offsetFrom listed firstFailed countsBy answerBy
+    foldRecords foldSections leftAfter auxiliariesLeft isSymbol sectionWords symbolWords
     externWords fixWords baseOk standardValue
 shared-home = record { accepted = refl; home = refl; start = refl; ours = refl; standard = refl }

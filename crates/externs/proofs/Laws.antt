@@ -14,6 +14,7 @@ use lib.ListN.{length, getD, take, drop, set, getD-replicate, List·getD-eq-defa
 use lib.Seq.{drop-cons, take-suc, take-take, length-take-le, getD-take, take-set-le, take-set-lt, drop-set-lt, getD-set-same, set-split, split-at, take-at, append-snoc, sets-eq}
 use Rattle.util.specs.Pick.{pick, le-or-lt}
 use Rattle.util.specs.Prefix.{length-list}
+use Rattle.util.specs.Fold.{foldRecords, foldSections}
 use Rattle.object.specs.declared.Header.{Header}
 use Rattle.object.specs.Section.{relocationCount}
 use Rattle.object.specs.declared.Records.{Records}
@@ -22,6 +23,7 @@ use Rattle.object.specs.Relocation.{relocationSymbol, relocationIn, recordsOf, 
 use Rattle.names.specs.declared.Order.{Order}
 use Rattle.names.specs.declared.Order.the-variants.{Less, Equal, Greater}
 use Rattle.names.specs.Bytes.{sameBytes, compareBytes}
+use Rattle.names.specs.OrderLaws.{less-less, less-not-self}
 use Rattle.names.specs.declared.Span.{Span}
 use Rattle.names.specs.Name.{symbolText, symbolSpan, spanText}
 use Rattle.order.specs.Key.{KEY-BYTES, key}
@@ -29,13 +31,13 @@ use Rattle.order.specs.KeyLaws.{key-less, key-greater}
 use mir.Val.{Fits}
 use mir.Syntax.{w8}
 use Rattle.limits.specs.Limits.{MAX-EXTERNS, EXTERN-ROOM}
-use Rattle.externs.specs.Externs.{orderOf, insertName, externRecords, externsTo, Holds, namesOf, slotWords}
+use Rattle.externs.specs.Externs.{orderOf, insertName, externStep, externRecords, externsTo, Holds, namesOf, slotWords}
 use Rattle.externs.specs.ExternLaws.{records-grow, sections-grow, over-length, count-room, count-list}
 use Rattle.externs.specs.Held.{held, putAt, lowerAt, Placed, Inserted}
-use Rattle.externs.specs.Keys.{symbolKey, keysOf, InStep, PutBoth, Skipped}
+use Rattle.externs.specs.Keys.{symbolKey, keysOf, InStep, PutBoth, KeysRise, Skipped}
 use Rattle.externs.specs.Bisect.{nameOrder, bySide, halves}
 use Rattle.externs.specs.BisectLaws.{bisect-slot}
-use Rattle.externs.specs.Inserting.{Rising, min-name, rise, keep, put-in, put-again}
+use Rattle.externs.specs.Inserting.{Rising, min-name, rise, keep, put-in, put-again, rising-at}
 use Rattle.externs.specs.Seen.{SEEN, NOTED, isSeen, noted, Seen, Kept, KeptFor}
 use Rattle.externs.specs.Slot.{slotOf}
 use Rattle.externs.specs.Slotted.{foundCode, takesSlot, slottedCode, slottedAt, slottedTo, slotted, codesAfter}
@@ -243,6 +245,9 @@ module _ (f : List ℕ) (h : Header) where
     pub table-step : (n : ℕ) → Kept f h l ks s n → InStep f h l ks n
     table-step n k = k .step
 
+    pub table-rising : (n : ℕ) → Kept f h l ks s n → Rising f h (held n l)
+    table-rising n k = k .rising
+
     pub table-over : KeptFor f h l ks s TooMany
     unfolding KeptFor
     table-over = tt
@@ -289,7 +294,39 @@ module _ (ks : List ℕ) (n p k : ℕ) where
         lower = λ i b c. ⊎-elim (λ (e : q ≤ i). let z : i ≡ q = omega arith in rw z l) (λ e. s .lower i b e) (le-or-lt q i);
       }
 
-pub ruleset skip-loop = (skip-none, skip-more)
+-- eight more, by the last of them
+pub leap-more : (ks : List ℕ) (n p k q : ℕ) → KeysRise ks n → Skipped ks n p k q → 8 ≤ n - q → getD ks (q + 7) 0 < k → Skipped ks n p k (q + 8)
+leap-more ks n p k q rises s h l =
+    let a = s .low in
+    let below : (i : ℕ) → i < q + 8 → getD ks i 0 < k =
+    λ i c. ⊎-elim (λ (e : q + 7 ≤ i). let z : i ≡ q + 7 = omega arith in rw z l) (λ e. let o = rises .rise i (q + 7) e (omega arith) in omega arith) (le-or-lt (q + 7) i)
+    in
+    record { low = omega arith; high = omega arith; lower = λ i b c. below i c }
+
+pub leap-room : (ks : List ℕ) (n q : ℕ) → n ≤ length ks → 8 ≤ n - q → q + 7 < length ks
+leap-room ks n q h l = omega arith
+
+pub ruleset skip-loop = (skip-none, skip-more, leap-more, leap-room)
+
+-- ---- sorted names have keys that rise
+module _ (f : List ℕ) (h : Header) (n : ℕ) (l ks : List ℕ) (m : (i : ℕ) → Fits w8 (getD f i 0)) (room : n ≤ length l) (beside : n ≤ length ks) (e : InStep f h l ks n)
+    (r : Rising f h (held n l)) where
+  never-falls : (i q : ℕ) → i < q → q < n → getD ks q 0 < getD ks i 0 → ⊥
+  unfolding held
+  never-falls i q a b z =
+      let x = symbolText f h (getD l i 0) in
+      let y = symbolText f h (getD l q 0) in
+      let falls : symbolKey f h (getD l q 0) < symbolKey f h (getD l i 0) =
+      rw (key-at f h l ks n i (omega arith) room beside e, key-at f h l ks n q b room beside e) at z
+      in
+      let down : compareBytes y x ≡ Less = key-less f (λ i. let b = m i in omega arith) (symbolSpan f h (getD l q 0)) (symbolSpan f h (getD l i 0)) falls in
+      let up : compareBytes x y ≡ Less =
+      rw (getD-take n l i 0 (omega arith), getD-take n l q 0 b) at (rising-at f h (held n l) i q r a (rw (held-length n l room) b))
+      in
+      less-not-self y (less-less y x y down up)
+
+  pub keys-rise : KeysRise ks n
+  keys-rise = record { rise = λ i q a b. ⊎-elim (λ z. z) (λ z. absurd (never-falls i q a b z)) (le-or-lt (getD ks i 0) (getD ks q 0)) }
 
 module _ (f : List ℕ) (h : Header) (j n k : ℕ) (l ks : List ℕ) (m : (i : ℕ) → Fits w8 (getD f i 0)) (room : n ≤ length l) (beside : n ≤ length ks) (e : InStep f h l ks n)
     (d : k ≡ symbolKey f h j) where
@@ -326,7 +363,7 @@ module _ (f : List ℕ) (h : Header) (j n k : ℕ) (l ks : List ℕ) (m : (i : �
       → Passed f h j (held n l) i → Skipped ks n (i + 1) k r → Passed f h j (held n l) r
   spot-on i r o name is lt w g q s = passed-skip (i + 1) r (spot-more f h j l n i o name is lt room w g q) s
 
-pub ruleset spot-keys = (spot-key, spot-first, spot-on)
+pub ruleset spot-keys = (spot-key, spot-first, spot-on, keys-rise)
 
 -- ---- the lower number stays
 module _ (l : List ℕ) (n p j : ℕ) (room : n < length l) (h : p < n) where
@@ -424,7 +461,7 @@ module _ (ys l : List ℕ) where
 -- ---- the relocations of a section
 module _ (f : List ℕ) (h : Header) (puts : ℕ → Bool) (i : ℕ) (xs : List ℕ) where
   pub records-none : xs ≡ externRecords f h puts i xs 0
-  unfolding externRecords
+  unfolding foldRecords
   records-none = refl
 
   module _ (rs : Records) (is : rs ≡ recordsOf f h i) where
@@ -433,12 +470,12 @@ module _ (f : List ℕ) (h : Header) (puts : ℕ → Bool) (i : ℕ) (xs : List 
       name-put = does ∙ ap puts (symbol-read f h i rs x k is read)
 
       pub records-pass : b ≡ false → held n l ≡ externRecords f h puts i xs k → held n l ≡ externRecords f h puts i xs (k + 1)
-      unfolding externRecords pick
+      unfolding foldRecords externStep pick
       records-pass t q = rw (add-one, ← name-put, t) q
 
       module _ (r : ℕ) (a : List ℕ) (t : b ≡ true) (q : held n l ≡ externRecords f h puts i xs k) (y : Inserted f h (x .symbol) l n a r) where
         pub records-more : held r a ≡ externRecords f h puts i xs (k + 1)
-        unfolding externRecords pick
+        unfolding foldRecords externStep pick
         records-more = rw (add-one, ← name-put, t, ← symbol-read f h i rs x k is read, ← q) (y .list)
 
         pub records-over : (z : List ℕ) → k < rs .count → n ≤ MAX-EXTERNS → MAX-EXTERNS < length l → length a ≡ length l → MAX-EXTERNS < r
@@ -463,11 +500,11 @@ pub ruleset records-loop = (records-none, records-pass, records-more, records-ov
 -- ---- of all sections
 module _ (f : List ℕ) (h : Header) (puts : ℕ → Bool) where
   externs-suc : (i n : ℕ) (l : List ℕ) → held n l ≡ externsTo f h puts i → externsTo f h puts (i + 1) ≡ externRecords f h puts i (held n l) (relocationCount f h i)
-  unfolding externsTo
+  unfolding foldSections
   externs-suc i n l q = rw (add-one, q)
 
   pub externs-none : (l : List ℕ) → held 0 l ≡ externsTo f h puts 0
-  unfolding externsTo held
+  unfolding foldSections held
   externs-none l = refl
 
   module _ (i n : ℕ) (l a : List ℕ) (r : Names) where

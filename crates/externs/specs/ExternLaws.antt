@@ -3,14 +3,16 @@ use lib.Dec.{leb}
 use borrow.Author.Tests.{leb-true, leb-false}
 use mathlib.Core.Path.{_≡_, refl, sym, ap, _∙_}
 use mathlib.Core.Bool.{Bool, true, false}
-use mathlib.Core.List.{List, _++_}
-use mathlib.Core.Logic.{_⊎_, inl, inr, ⊎-elim}
-use Prim.Native.Nat.{ℕ, zero, suc, _+_, _≤_, _<_, _-_}
-use native.Mathlib.Nat.{not-suc-le-zero, le-refl, le-trans, le-of-suc-le-suc, eq-or-lt-of-le}
+use mathlib.Core.List.{List, [], _++_}
+use mathlib.Core.Logic.{⊎-elim}
+use Prim.Native.Nat.{ℕ, _≤_, _<_, _-_}
+use native.Mathlib.Nat.{le-refl}
 use native.Mathlib.Omega.{arith}
 use lib.ListN.{length, getD, take, replicate}
 use lib.Seq.{length-take-le, take-append-seam}
 use Rattle.util.specs.Pick.{pick, yes-no}
+use Rattle.util.specs.Fold as Fold
+use Rattle.util.specs.Fold.{sections-each, sections-made}
 use Rattle.object.specs.declared.Header.{Header}
 use Rattle.object.specs.Section.{relocationCount}
 use Rattle.object.specs.Relocation.{relocationSymbol}
@@ -18,7 +20,7 @@ use Rattle.names.specs.declared.Order.the-variants.{Less, Equal}
 use Rattle.names.specs.Name.{symbolText}
 use Rattle.names.specs.OrderLaws.{compare-self, equal-same}
 use Rattle.limits.specs.Limits.{MAX-EXTERNS, EXTERN-ROOM}
-use Rattle.externs.specs.Externs.{orderOf, insertName, externRecords, externsTo, externsBy, Holds, namesOf, slotWords}
+use Rattle.externs.specs.Externs.{orderOf, insertName, externStep, externRecords, externsTo, externsBy, Holds, namesOf, slotWords}
 use Rattle.externs.specs.declared.Names.{Names}
 use Rattle.externs.specs.declared.Names.the-variants.{TooMany, Count}
 use Rattle.externs.specs.declared.Found.the-variants.{Index}
@@ -41,111 +43,60 @@ pub record Entry (f : List ℕ) (h : Header) (list : List ℕ) (j : ℕ) : Type 
   pub inside : index < length list
   pub named : orderOf f h (getD list index 0) j ≡ Equal
 
--- a sequence that never falls
-grows : (g : ℕ → ℕ) → ((i : ℕ) → g i ≤ g (suc i)) → (i m : ℕ) → i ≤ m → g i ≤ g m
-grows g up i zero h = let e : i ≡ 0 = omega arith in rw e (le-refl (g 0))
-grows g up i (suc m) h =
-    ⊎-elim (λ e. rw e (le-refl (g (suc m)))) (λ lt. le-trans (grows g up i m (le-of-suc-le-suc lt)) (up m)) (eq-or-lt-of-le h)
-
--- ---- the records of a section
-abbrev PutBelow : List ℕ → Header → (ℕ → Bool) → ℕ → ℕ → ℕ → Type 0
-PutBelow f h puts i k y = (w : ℕ) × (w < k) × (puts (relocationSymbol f h i w) ≡ true) × (y ≡ relocationSymbol f h i w)
-
-module _ (f : List ℕ) (h : Header) (puts : ℕ → Bool) (i : ℕ) (xs : List ℕ) where
-  records-up : (k : ℕ) → length (externRecords f h puts i xs k) ≤ length (externRecords f h puts i xs (suc k))
-  unfolding externRecords pick
-  records-up k = by-put (puts (relocationSymbol f h i k)) (externRecords f h puts i xs k)
-    where
-      by-put : (b : Bool) (ys : List ℕ) → length ys ≤ length (pick b (insertName f h (relocationSymbol f h i k) ys) ys)
-      by-put true ys = insert-grows f h (relocationSymbol f h i k) ys
-      by-put false ys = le-refl (length ys)
-
-  -- the list only grows with more records
-  pub records-grow : (k m : ℕ) → k ≤ m → length (externRecords f h puts i xs k) ≤ length (externRecords f h puts i xs m)
-  records-grow k m q = grows (λ (j : ℕ). length (externRecords f h puts i xs j)) records-up k m q
-
-  records-rise : Rising f h xs → (k : ℕ) → Rising f h (externRecords f h puts i xs k)
-  unfolding externRecords pick
-  records-rise r zero = r
-  records-rise r (suc k) = by-put (puts (relocationSymbol f h i k)) (externRecords f h puts i xs k) (records-rise r k)
-    where
-      by-put : (b : Bool) (ys : List ℕ) → Rising f h ys → Rising f h (pick b (insertName f h (relocationSymbol f h i k) ys) ys)
-      by-put true ys s = rise f h (relocationSymbol f h i k) ys s
-      by-put false ys s = s
-
-  records-keep : (y k : ℕ) → Has f h y (externRecords f h puts i xs k) → Has f h y (externRecords f h puts i xs (suc k))
-  unfolding externRecords pick
-  records-keep y k = by-put (puts (relocationSymbol f h i k)) (externRecords f h puts i xs k)
-    where
-      by-put : (b : Bool) (ys : List ℕ) → Has f h y ys → Has f h y (pick b (insertName f h (relocationSymbol f h i k) ys) ys)
-      by-put true ys s = keep f h (relocationSymbol f h i k) y ys s
-      by-put false ys s = s
-
-  records-have : (y : ℕ) → Has f h y xs → (k : ℕ) → Has f h y (externRecords f h puts i xs k)
-  unfolding externRecords
-  records-have y s zero = s
-  records-have y s (suc k) = records-keep y k (records-have y s k)
-
-  records-new : (k : ℕ) → puts (relocationSymbol f h i k) ≡ true → Has f h (relocationSymbol f h i k) (externRecords f h puts i xs (suc k))
-  unfolding externRecords pick
-  records-new k t = rw t (put-in f h (relocationSymbol f h i k) (externRecords f h puts i xs k))
-
-  records-put : (k m : ℕ) → k < m → puts (relocationSymbol f h i k) ≡ true → Has f h (relocationSymbol f h i k) (externRecords f h puts i xs m)
-  records-put k zero q t = absurd (not-suc-le-zero q)
-  records-put k (suc m) q t =
-      ⊎-elim (λ e. rw (← e) (records-new k t)) (λ lt. records-keep (relocationSymbol f h i k) m (records-put k m lt t)) (eq-or-lt-of-le (le-of-suc-le-suc q))
-
-  records-from : (y k : ℕ) → In y (externRecords f h puts i xs k) → In y xs ⊎ PutBelow f h puts i k y
-  unfolding externRecords pick
-  records-from y zero p = inl p
-  records-from y (suc k) p = by-put (puts (relocationSymbol f h i k)) refl (records-from y k) p
-    where
-      wider : In y xs ⊎ PutBelow f h puts i k y → In y xs ⊎ PutBelow f h puts i (suc k) y
-      wider s = ⊎-elim (λ a. inl a) (λ b. inr (b .0, omega (arith, b .1), b .2, b .3)) s
-
-      by-put : (b : Bool) → puts (relocationSymbol f h i k) ≡ b → (In y (externRecords f h puts i xs k) → In y xs ⊎ PutBelow f h puts i k y)
-          → In y (pick b (insertName f h (relocationSymbol f h i k) (externRecords f h puts i xs k)) (externRecords f h puts i xs k))
-          → In y xs ⊎ PutBelow f h puts i (suc k) y
-      by-put true t rest q =
-          ⊎-elim (λ e. inr (k, omega arith, t, e)) (λ r. wider (rest r)) (in-insert f h (relocationSymbol f h i k) y (externRecords f h puts i xs k) q)
-      by-put false t rest q = wider (rest q)
-
--- ---- all sections
+-- ---- the relocations of all sections
 module _ (f : List ℕ) (h : Header) (puts : ℕ → Bool) where
-  sections-up : (i : ℕ) → length (externsTo f h puts i) ≤ length (externsTo f h puts (suc i))
-  unfolding externsTo externRecords
-  sections-up i = records-grow f h puts i (externsTo f h puts i) 0 (relocationCount f h i) (omega arith)
+  step-up : (xs : List ℕ) (i k : ℕ) → length xs ≤ length (externStep f h puts xs i k)
+  unfolding externStep pick
+  step-up xs i k = by-put (puts (relocationSymbol f h i k))
+    where
+      by-put : (b : Bool) → length xs ≤ length (pick b (insertName f h (relocationSymbol f h i k) xs) xs)
+      by-put true = insert-grows f h (relocationSymbol f h i k) xs
+      by-put false = le-refl (length xs)
 
-  -- the list only grows with more sections
+  -- the list only grows with more records, and with more sections
+  pub records-grow : (i : ℕ) (xs : List ℕ) (k m : ℕ) → k ≤ m → length (externRecords f h puts i xs k) ≤ length (externRecords f h puts i xs m)
+  records-grow = Fold.records-grow (externStep f h puts) length step-up
+
   pub sections-grow : (i m : ℕ) → i ≤ m → length (externsTo f h puts i) ≤ length (externsTo f h puts m)
-  sections-grow i m q = grows (λ (k : ℕ). length (externsTo f h puts k)) sections-up i m q
+  sections-grow = Fold.sections-grow (externStep f h puts) length step-up (relocationCount f h) []
+
+  step-rise : (xs : List ℕ) (i k : ℕ) → Rising f h xs → Rising f h (externStep f h puts xs i k)
+  unfolding externStep pick
+  step-rise xs i k s = by-put (puts (relocationSymbol f h i k))
+    where
+      by-put : (b : Bool) → Rising f h (pick b (insertName f h (relocationSymbol f h i k) xs) xs)
+      by-put true = rise f h (relocationSymbol f h i k) xs s
+      by-put false = s
 
   sections-rise : (m : ℕ) → Rising f h (externsTo f h puts m)
-  unfolding externsTo
-  sections-rise zero = tt
-  sections-rise (suc m) = records-rise f h puts m (externsTo f h puts m) (sections-rise m) (relocationCount f h m)
+  sections-rise m = sections-each (externStep f h puts) (Rising f h) (relocationCount f h) [] m (λ i k xs l q. step-rise xs i k) tt
 
-  sections-keep : (y m : ℕ) → Has f h y (externsTo f h puts m) → Has f h y (externsTo f h puts (suc m))
-  unfolding externsTo
-  sections-keep y m s = records-have f h puts m (externsTo f h puts m) y s (relocationCount f h m)
-
-  sections-new : (i k : ℕ) → k < relocationCount f h i → puts (relocationSymbol f h i k) ≡ true → Has f h (relocationSymbol f h i k) (externsTo f h puts (suc i))
-  unfolding externsTo
-  sections-new i k q t = records-put f h puts i (externsTo f h puts i) k (relocationCount f h i) q t
+  step-keep : (y : ℕ) (xs : List ℕ) (i k : ℕ) → Has f h y xs → Has f h y (externStep f h puts xs i k)
+  unfolding externStep pick
+  step-keep y xs i k s = by-put (puts (relocationSymbol f h i k))
+    where
+      by-put : (b : Bool) → Has f h y (pick b (insertName f h (relocationSymbol f h i k) xs) xs)
+      by-put true = keep f h (relocationSymbol f h i k) y xs s
+      by-put false = s
 
   sections-put : (i k m : ℕ) → i < m → k < relocationCount f h i → puts (relocationSymbol f h i k) ≡ true → Has f h (relocationSymbol f h i k) (externsTo f h puts m)
-  sections-put i k zero p q t = absurd (not-suc-le-zero p)
-  sections-put i k (suc m) p q t =
-      ⊎-elim (λ e. rw (← e) (sections-new i k q t)) (λ lt. sections-keep (relocationSymbol f h i k) m (sections-put i k m lt q t)) (eq-or-lt-of-le (le-of-suc-le-suc p))
+  unfolding externStep pick
+  sections-put i k m p q t =
+      let j = relocationSymbol f h i k in
+      sections-made (externStep f h puts) (Has f h j) (step-keep j) (relocationCount f h) [] m i k p q (λ xs. rw t (put-in f h j xs))
+
+  step-from : (y m : ℕ) (i k : ℕ) (xs : List ℕ) → i < m → k < relocationCount f h i → (In y xs → Put f h puts m y)
+      → In y (externStep f h puts xs i k) → Put f h puts m y
+  unfolding externStep pick
+  step-from y m i k xs p q rest = by-put (puts (relocationSymbol f h i k)) refl
+    where
+      by-put : (b : Bool) → puts (relocationSymbol f h i k) ≡ b → In y (pick b (insertName f h (relocationSymbol f h i k) xs) xs) → Put f h puts m y
+      by-put true t s =
+          ⊎-elim (λ e. record { section = i; which = k; within = p; inside = q; does = t; is = e }) rest (in-insert f h (relocationSymbol f h i k) y xs s)
+      by-put false t s = rest s
 
   sections-from : (y m : ℕ) → In y (externsTo f h puts m) → Put f h puts m y
-  unfolding externsTo
-  sections-from y zero p = absurd p
-  sections-from y (suc m) p =
-      ⊎-elim
-      (λ q. let r = sections-from y m q in record { section = r .section; which = r .which; within = omega (arith, r .within); inside = r .inside; does = r .does; is = r .is })
-      (λ b. record { section = m; which = b .0; within = omega arith; inside = b .1; does = b .2; is = b .3 })
-      (records-from f h puts m (externsTo f h puts m) y (relocationCount f h m) p)
+  sections-from y m = sections-each (externStep f h puts) (λ xs. In y xs → Put f h puts m y) (relocationCount f h) [] m (step-from y m) (λ s. absurd s)
 
 -- ---- the list of a file
 module _ (f : List ℕ) (h : Header) (puts : ℕ → Bool) where

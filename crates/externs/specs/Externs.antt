@@ -2,10 +2,11 @@
 use mathlib.Core.Bool.{Bool}
 use mathlib.Core.List.{List, [], _∷_, _++_}
 use mathlib.Core.Path.{_≡_}
-use Prim.Native.Nat.{ℕ, zero, suc, _-_, _≤_, _<_, min}
+use Prim.Native.Nat.{ℕ, _-_, _≤_, _<_, min}
 use lib.Dec.{leb}
 use lib.ListN.{length, take, replicate}
 use Rattle.util.specs.Pick.{pick}
+use Rattle.util.specs.Fold.{foldRecords, foldSections}
 use Rattle.object.specs.declared.Header.{Header}
 use Rattle.object.specs.Section.{relocationCount}
 use Rattle.object.specs.Relocation.{relocationSymbol}
@@ -14,6 +15,7 @@ use Rattle.names.specs.declared.Order.the-variants.{Less, Equal, Greater}
 use Rattle.names.specs.Bytes.{compareBytes}
 use Rattle.names.specs.Name.{symbolText}
 use Rattle.limits.specs.Limits.{MAX-EXTERNS, EXTERN-ROOM}
+use Rattle.refusal.specs.Refusal.{EXTERNS}
 use Rattle.codes.specs.Puts as Puts
 use Rattle.externs.specs.declared.Names.{Names}
 use Rattle.externs.specs.declared.Names.the-variants.{TooMany, Count}
@@ -22,6 +24,7 @@ use Rattle.externs.specs.declared.Names.the-variants.{TooMany, Count}
 abbrev pub orderOf : List ℕ → Header → ℕ → ℕ → Order
 orderOf f h j x = compareBytes (symbolText f h j) (symbolText f h x)
 
+-- one of three lists, by the order of two names
 abbrev pub byOrder : Order → List ℕ → List ℕ → List ℕ → List ℕ
 byOrder Less a b c = a
 byOrder Equal a b c = b
@@ -32,17 +35,19 @@ unfoldable pub insertName : List ℕ → Header → ℕ → List ℕ → List �
 insertName f h j [] = j ∷ []
 insertName f h j (x ∷ xs) = byOrder (orderOf f h j x) (j ∷ x ∷ xs) (min j x ∷ xs) (x ∷ insertName f h j xs)
 
--- the list after the first k records of section i, which found xs; `puts` says which numbers of symbols a relocation puts there
-unfoldable pub externRecords : List ℕ → Header → (ℕ → Bool) → ℕ → List ℕ → ℕ → List ℕ
-externRecords f h puts i xs zero = xs
-externRecords f h puts i xs (suc k) =
-    pick (puts (relocationSymbol f h i k)) (insertName f h (relocationSymbol f h i k) (externRecords f h puts i xs k)) (externRecords f h puts i xs k)
+-- the list after record k of section i; `puts` says which numbers of symbols a relocation puts there
+unfoldable pub externStep : List ℕ → Header → (ℕ → Bool) → List ℕ → ℕ → ℕ → List ℕ
+externStep f h puts xs i k = pick (puts (relocationSymbol f h i k)) (insertName f h (relocationSymbol f h i k) xs) xs
 
--- after the first i sections: the relocations of all sections, loaded or not, in section and record order
-unfoldable pub externsTo : List ℕ → Header → (ℕ → Bool) → ℕ → List ℕ
-externsTo f h puts zero = []
-externsTo f h puts (suc i) = externRecords f h puts i (externsTo f h puts i) (relocationCount f h i)
+-- after the first k records of section i, which found xs
+abbrev pub externRecords : List ℕ → Header → (ℕ → Bool) → ℕ → List ℕ → ℕ → List ℕ
+externRecords f h puts i xs k = foldRecords (externStep f h puts) i xs k
 
+-- after the first n sections: the relocations of all sections, loaded or not, in section and record order
+abbrev pub externsTo : List ℕ → Header → (ℕ → Bool) → ℕ → List ℕ
+externsTo f h puts n = foldSections (externStep f h puts) (relocationCount f h) [] n
+
+-- the list after all sections
 abbrev pub externsBy : List ℕ → Header → (ℕ → Bool) → List ℕ
 externsBy f h puts = externsTo f h puts (h .sections)
 
@@ -50,12 +55,18 @@ externsBy f h puts = externsTo f h puts (h .sections)
 abbrev pub externs : List ℕ → Header → List ℕ
 externs f h = externsBy f h (Puts.puts f h)
 
--- how many names there are, or that there are too many; and the words that keep the list: zeros behind it, and nothing of one that is too long
+-- how many names there are, or that there are too many (refusal 9)
 abbrev pub namesOf : List ℕ → Names
 namesOf ys = pick (leb (length ys) MAX-EXTERNS) (Count (length ys)) TooMany
 
+-- the words that keep the list: zeros behind it, and nothing of one that is too long
 unfoldable pub slotWords : List ℕ → List ℕ
 slotWords ys = pick (leb (length ys) MAX-EXTERNS) (ys ++ replicate (EXTERN-ROOM - length ys) 0) (replicate EXTERN-ROOM 0)
+
+-- the refusal of each case (01, "Survey"), 0 where there is none
+abbrev pub namesRefusal : Names → ℕ
+namesRefusal TooMany = EXTERNS
+namesRefusal (Count n) = 0
 
 -- what a buffer that holds at most as many numbers as there may be names says of the list: too many, or its first n are the list
 unfoldable pub Holds : List ℕ → List ℕ → Names → Type 0

@@ -13,10 +13,11 @@ use Rattle.externs.specs.Externs.{orderOf, insertName}
 unfoldable pub held : ℕ → List ℕ → List ℕ
 held n l = take n l
 
--- xs with j put at p, and xs with the lower of j and what stands at p
+-- xs with j put at p, what stands from there on one place further
 unfoldable pub putAt : ℕ → ℕ → List ℕ → List ℕ
 putAt p j xs = take p xs ++ j ∷ drop p xs
 
+-- xs with the lower of j and what stands at p
 unfoldable pub lowerAt : ℕ → ℕ → List ℕ → List ℕ
 lowerAt p j xs = take p xs ++ min j (getD xs p 0) ∷ drop (suc p) xs
 

@@ -20,10 +20,11 @@ abbrev pub In : ℕ → List ℕ → Type 0
 In y [] = ⊥
 In y (x ∷ xs) = (y ≡ x) ⊎ In y xs
 
--- the name of x comes before those of xs; each name comes before those behind it
+-- the name of x comes before those of xs
 abbrev pub Above : List ℕ → Header → ℕ → List ℕ → Type 0
 Above f h x xs = (y : ℕ) → In y xs → orderOf f h x y ≡ Less
 
+-- each name comes before those behind it, so none stands there twice
 abbrev pub Rising : List ℕ → Header → List ℕ → Type 0
 Rising f h [] = Unit {0}
 Rising f h (x ∷ xs) = Above f h x xs × Rising f h xs
@@ -153,6 +154,7 @@ member [] e k = absurd (not-suc-le-zero k)
 member (x ∷ xs) zero k = inl refl
 member (x ∷ xs) (suc e) k = inr (member xs e (le-of-suc-le-suc k))
 
+-- y stands in xs, and where
 pub record Index (y : ℕ) (xs : List ℕ) : Type 0 where
   pub index : ℕ
   pub inside : index < length xs

@@ -8,10 +8,11 @@ use Rattle.names.specs.Name.{symbolText}
 use Rattle.order.specs.Key.{KEY-BYTES, key}
 use Rattle.externs.specs.Held.{held, putAt}
 
--- the key of symbol j's name, and those of a list of symbols
+-- the key of symbol j's name
 abbrev pub symbolKey : List ℕ → Header → ℕ → ℕ
 symbolKey f h j = key KEY-BYTES (symbolText f h j)
 
+-- those of a list of symbols, in its order
 unfoldable pub keysOf : List ℕ → Header → List ℕ → List ℕ
 keysOf f h [] = []
 keysOf f h (j ∷ js) = symbolKey f h j ∷ keysOf f h js
@@ -24,6 +25,10 @@ InStep f h slots keys n = held n keys ≡ keysOf f h (held n slots)
 pub record PutBoth (slots keys : List ℕ) (n p j k : ℕ) (slots′ keys′ : List ℕ) : Type 0 where
   pub list : held (n + 1) slots′ ≡ putAt p j (held n slots)
   pub beside : held (n + 1) keys′ ≡ putAt p k (held n keys)
+
+-- of the first n keys none is above a later one
+pub record KeysRise (keys : List ℕ) (n : ℕ) : Type 0 where
+  pub rise : (i j : ℕ) → i < j → j < n → getD keys i 0 ≤ getD keys j 0
 
 -- the keys from p to r are lower than k
 pub record Skipped (keys : List ℕ) (n p k r : ℕ) : Type 0 where

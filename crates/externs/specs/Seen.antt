@@ -14,10 +14,11 @@ use Rattle.externs.specs.Held.{held}
 use Rattle.externs.specs.Keys.{InStep}
 use Rattle.externs.specs.Inserting.{Rising, Has}
 
--- the cells of the table, and the symbols below which a number, counted from 1, fits a cell
+-- the cells of the table
 abbrev pub SEEN : ℕ
 SEEN = 1024
 
+-- the symbols below this are noted: their number, counted from 1, fits a cell of 16 bits
 abbrev pub NOTED : ℕ
 NOTED = 0xFFFF
 

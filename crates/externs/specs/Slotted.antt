@@ -24,17 +24,21 @@ foundCode Nothing = NO-SLOT
 abbrev pub takesSlot : ℕ → Bool
 takesSlot c = eqb c SLOT || eqb c EXTERN
 
+-- code c once it is known which slot its name has
 unfoldable pub slottedCode : ℕ → Found → ℕ
 slottedCode c found = pick (takesSlot c) (foundCode found) c
 
--- symbol j's code, those of the symbols below n, and all; ys are the extern names
+-- ---- ys are the extern names, `codes` what was kept before them
 module _ (f : List ℕ) (h : Header) (ys codes : List ℕ) where
+  -- symbol j's code
   unfoldable pub slottedAt : ℕ → ℕ
   slottedAt j = slottedCode (getD codes j 0) (slotOf f h ys (symbolText f h j))
 
+  -- those of the symbols below n
   abbrev pub slottedTo : ℕ → List ℕ
   slottedTo n = listTo slottedAt n
 
+  -- the kept words, with the codes of all symbols at the front
   abbrev pub slotted : List ℕ
   slotted = splice codes 0 (slottedTo (h .symbols))
 

@@ -13,7 +13,7 @@ ghost use Rattle.names.specs.Name.{spanText, symbolText};
 ghost use Rattle.limits.specs.Limits.{MAX-EXTERNS, EXTERN-ROOM};
 ghost use Rattle.externs.specs.Externs.{externRecords, externsBy, namesOf, slotWords, Holds};
 ghost use Rattle.externs.specs.Held.{held, putAt, lowerAt, Placed, Inserted};
-ghost use Rattle.externs.specs.Keys.{symbolKey, Skipped, PutBoth, InStep};
+ghost use Rattle.externs.specs.Keys.{symbolKey, KeysRise, Skipped, PutBoth, InStep};
 ghost use Rattle.externs.specs.Bisect.{nameOrder};
 ghost use Rattle.externs.specs.Inserting.{Rising};
 ghost use Rattle.externs.specs.Seen.{isSeen, noted, Seen, Kept, KeptFor};
@@ -24,6 +24,9 @@ ghost use Rattle.externs.specs.Slotted.{foundCode, slottedCode, slottedA
 const SEEN: usize = 1024;
 // Below it a symbol's number, counted from 1, fits a cell.
 const NOTED: u32 = 0xFFFF;
+
+// How many keys are passed by a look at the last of them.
+const LEAP: usize = 8;
 
 // How many names there are, or more than the limit.
 pub enum Names {
@@ -50,12 +53,27 @@ fn name_order(f: &[u8], h: Header, name: Span, x: u32) -> Order
     order::compare(f, name, names::symbol_span(f, h, x))
 }
 
-// From p on, behind all keys that are lower, of the first n.
-fn skip(keys: &[u64], n: usize, p: usize, key: u64) -> usize
-    requires { ⌜ (n ≤ length (now keys)) × (p ≤ n) ⌝ }
+// From p on, behind keys of the first n that are lower, so many at a time as rise up to one that is.
+fn leap(keys: &[u64], n: usize, p: usize, key: u64) -> usize
+    requires { ⌜ (n ≤ length (now keys)) × (p ≤ n) × KeysRise (now keys) n ⌝ }
     ensures { λ r. ⌜ Skipped (now (keys .entry)) n p key r ⌝ }
 {
     let mut q = p;
+    while LEAP <= n - q {
+        if key <= keys[q + 7] {
+            return q;
+        }
+        q += LEAP;
+    }
+    q
+}
+
+// From p on, behind all keys that are lower, of the first n.
+fn skip(keys: &[u64], n: usize, p: usize, key: u64) -> usize
+    requires { ⌜ (n ≤ length (now keys)) × (p ≤ n) × KeysRise (now keys) n ⌝ }
+    ensures { λ r. ⌜ Skipped (now (keys .entry)) n p key r ⌝ }
+{
+    let mut q = leap(keys, n, p, key);
     while q < n {
         if key <= keys[q] {
             return q;
@@ -74,7 +92,7 @@ fn symbol_key(f: &[u8], h: Header, j: u32) -> u64
 
 // Where j, whose name has that key, goes among the first n, or where its name is. Only names with equal keys are compared.
 fn find(f: &[u8], h: Header, slots: &[u32], keys: &[u64], n: usize, j: u32, key: u64) -> Spot
-    requires { ⌜ (n ≤ length (now slots)) × (n ≤ length (now keys)) × InStep (now f) h (now slots) (now keys) n × (key ≡ symbolKey (now f) h j) ⌝ }
+    requires { ⌜ (n ≤ length (now slots)) × (n ≤ length (now keys)) × InStep (now f) h (now slots) (now keys) n × (key ≡ symbolKey (now f) h j) × Rising (now f) h (held n (now slots)) ⌝ }
     ensures { λ r. ⌜ Placed (now (f .entry)) h j n (held n (now (slots .entry))) r ⌝ }
 {
     let name = names::symbol_span(f, h, j);
@@ -143,7 +161,7 @@ fn lower(slots: &mut [u32], n: usize, p: usize, j: u32)
 }
 
 fn insert(f: &[u8], h: Header, slots: &mut [u32], keys: &mut [u64], n: usize, j: u32) -> usize
-    requires { ⌜ (n < length (now slots)) × (n < length (now keys)) × InStep (now f) h (now slots) (now keys) n ⌝ }
+    requires { ⌜ (n < length (now slots)) × (n < length (now keys)) × InStep (now f) h (now slots) (now keys) n × Rising (now f) h (held n (now slots)) ⌝ }
     ensures { λ r. ⌜ Inserted (now (f .entry)) h j (now (slots .entry)) n (now (slots .exit)) r ⌝ }
     ensures { λ r. ⌜ InStep (now (f .entry)) h (now (slots .exit)) (now (keys .exit)) r ⌝ }
 {

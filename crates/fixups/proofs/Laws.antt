@@ -20,7 +20,7 @@ use Rattle.homes.specs.Home.{wordHome}
 use Rattle.fixups.specs.declared.Fix.{Fix}
 use Rattle.fixups.specs.declared.Outcome.{Outcome}
 use Rattle.fixups.specs.declared.Outcome.the-variants.{Passed, Skipped, Refused, Fixup}
-use Rattle.fixups.specs.Outcome.{byKind, fixAt, resolved, byHome}
+use Rattle.fixups.specs.Outcome.{byKind, fixAt, resolved, outcomeAt}
 use Rattle.fixups.specs.Value.{isRelative, valueOf}
 use Rattle.targets.specs.declared.Skip.{Skip}
 use Rattle.targets.specs.declared.Skip.the-variants.{NoType}
@@ -79,26 +79,21 @@ module _ (g : Target) (t : RelocationType) (place : RVA) where
 
 pub ruleset resolving = (resolved-home, resolved-named, resolved-slot, resolved-missing, resolved-refused)
 
-module _ (a : Arch) (target : ℕ → Target) (r : Relocation) where
-  pub home-at : (start : ℕ) (t : RelocationType) (g : Target) (x : Outcome) → t ≡ typeOf a (r .typ) → g ≡ target (r .symbol)
-      → x ≡ resolved g t (rva (start + r .address)) → x ≡ byHome a target (At (rva start)) r
-  unfolding byHome
-  home-at start t g x e q p = rw (← e, ← q) p
-
-pub word-none : (a : Arch) (target : ℕ → Target) (r : Relocation) (w : ℕ) → w ≡ 0 → Passed ≡ byHome a target (wordHome w) r
-unfolding byHome wordHome
-word-none a target r w e = rw e
-
 home-word : (w : ℕ) → (w ≡ 0 → ⊥) → wordHome w ≡ At (rva (w - 1))
 unfolding wordHome
 home-word zero n = absurd (n refl)
 home-word (suc w) n = let e : suc w - 1 ≡ w = omega arith in rw e
 
-pub word-some : (a : Arch) (target : ℕ → Target) (f : List ℕ) (rs : Records) (k w : ℕ) (r : Relocation) (x : Outcome) → (w ≡ 0 → ⊥)
-    → r ≡ relocationIn f (recordAt rs k) → x ≡ byHome a target (At (rva (w - 1))) r → x ≡ byHome a target (wordHome w) (relocationIn f (recordAt rs k))
-word-some a target f rs k w r x n e q = rw (home-word w n, ← e) q
+module _ (w address : ℕ) (t : RelocationType) (g : Target) where
+  pub home-none : w ≡ 0 → Passed ≡ outcomeAt (wordHome w) address t g
+  unfolding outcomeAt wordHome
+  home-none e = rw e
 
-pub ruleset outcome-ways = (home-at, word-none, word-some)
+  pub home-some : (x : Outcome) → (w ≡ 0 → ⊥) → x ≡ resolved g t (rva (w - 1 + address)) → x ≡ outcomeAt (wordHome w) address t g
+  unfolding outcomeAt
+  home-some x n q = rw (home-word w n) q
+
+pub ruleset outcome-ways = (home-none, home-some)
 
 -- ---- values
 module _ (base : ℕ) (x : Fix) (s r : ℕ) (b : Bool) where

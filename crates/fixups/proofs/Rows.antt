@@ -2,12 +2,12 @@
 use mathlib.Core.Path.{_≡_, refl, ap, _∙_}
 use mathlib.Core.Bool.{Bool, true, false}
 use mathlib.Core.List.{List}
-use Prim.Native.Nat.{ℕ, zero, suc, _+_, _*_, _≤_, _<_, _^_}
+use Prim.Native.Nat.{ℕ, _+_, _*_, _≤_, _<_, _^_}
 use native.Mathlib.Omega.{arith}
 use native.Mathlib.Numerals.{add-one}
 use Rattle.util.specs.Pick.{pick}
 use lib.ListN.{getD}
-use Rattle.util.specs.Prefix.{sumTo, countTo}
+use Rattle.util.specs.Fold.{foldRecords, foldSections, sections-both, records-same}
 use Rattle.arch.specs.declared.Arch.{Arch}
 use Rattle.arch.specs.declared.Offset.{Offset}
 use Rattle.object.specs.declared.Header.{Header}
@@ -22,8 +22,8 @@ use Rattle.fixups.specs.declared.Fix.{Fix}
 use Rattle.fixups.specs.declared.Outcome.{Outcome}
 use Rattle.fixups.specs.declared.Outcome.the-variants.{Passed, Skipped, Refused, Fixup}
 use Rattle.fixups.specs.declared.Tally.{Tally}
-use Rattle.fixups.specs.Tally.{isPassed, isSkipped, isRefused, isFixup, isMapped, isOutside, passes, countIn, howMany, tallyOf}
-use Rattle.fixups.specs.Tallying.{nothing, tallied, rowTo, rowsTo, AtMost, Counted}
+use Rattle.fixups.specs.Tally.{isPassed, isSkipped, isRefused, isFixup, isMapped, isOutside, countStep, howMany, tallyOf}
+use Rattle.fixups.specs.Tallying.{nothing, tallied, tallyStep, rowTo, rowsTo, AtMost, Counted}
 
 -- ---- one outcome more
 module _ (pages : ℕ) (t : Tally) where
@@ -92,14 +92,14 @@ within-room s i k m w a b c = within-more s (2 ^ 32 * i + k) (2 ^ 60) w (omega a
 -- ---- the records of a section
 module _ (pages : ℕ) (o : ℕ → ℕ → Outcome) (i : ℕ) (t : Tally) where
   pub row-none : t ≡ rowTo pages o i t 0
-  unfolding rowTo
+  unfolding foldRecords
   row-none = refl
 
   pub row-within : AtMost t (2 ^ 32 * i) → AtMost t (2 ^ 32 * i + 0)
   row-within w = within-more t (2 ^ 32 * i) (2 ^ 32 * i + 0) w (omega arith)
 
   pub row-again : (k : ℕ) (s r : Tally) (x : Outcome) → s ≡ rowTo pages o i t k → x ≡ o i k → r ≡ tallied pages s x → r ≡ rowTo pages o i t (k + 1)
-  unfolding rowTo
+  unfolding foldRecords tallyStep
   row-again k s r x e q d = rw (add-one k, ← e, ← q) d
 
   pub row-end : (k m n : ℕ) (s : Tally) → s ≡ rowTo pages o i t k → AtMost s (2 ^ 32 * i + k) → k ≤ m → m ≤ k → m ≡ n → m < 2 ^ 32 → Counted (rowTo pages o i t n) i s
@@ -115,22 +115,12 @@ unfolding pick
 add-pick true n = refl
 add-pick false n = omega arith
 
-module _ (pages : ℕ) (o : ℕ → ℕ → Outcome) (count : ℕ → ℕ) (p : Outcome → Bool) (q : Tally → ℕ) where
-  row-counts : ((t : Tally) (x : Outcome) → q (tallied pages t x) ≡ q t + pick (p x) 1 0) → (i : ℕ) (t : Tally) (k : ℕ) → q (rowTo pages o i t k) ≡ q t + countTo (passes p o i) k
-  unfolding rowTo countTo passes
-  row-counts step i t zero = omega arith
-  row-counts step i t (suc k) =
-      let e = row-counts step i t k in
-      let d = step (rowTo pages o i t k) (o i k) in
-      omega arith
-
-  rows-count : q nothing ≡ 0 → ((t : Tally) (x : Outcome) → q (tallied pages t x) ≡ q t + pick (p x) 1 0) → (n : ℕ) → q (rowsTo pages o count n) ≡ howMany p o count n
-  unfolding rowsTo sumTo countIn
-  rows-count none step zero = none
-  rows-count none step (suc n) =
-      let e = rows-count none step n in
-      let d = row-counts step n (rowsTo pages o count n) (count n) in
-      omega arith
+rows-count : (pages : ℕ) (o : ℕ → ℕ → Outcome) (count : ℕ → ℕ) (p : Outcome → Bool) (q : Tally → ℕ) → q nothing ≡ 0
+    → ((t : Tally) (x : Outcome) → q (tallied pages t x) ≡ q t + pick (p x) 1 0) → (n : ℕ) → q (rowsTo pages o count n) ≡ howMany p o count n
+unfolding tallyStep countStep
+rows-count pages o count p q none step n =
+    sections-both (tallyStep pages o) (countStep p o) (λ t m. q t ≡ m) count nothing 0 n
+    (λ i k t m l h e. step t (o i k) ∙ ap (λ (z : ℕ). z + pick (p (o i k)) 1 0) e) none
 
 module _ (pages : ℕ) (o : ℕ → ℕ → Outcome) (count : ℕ → ℕ) where
   rows-passed : (n : ℕ) → (rowsTo pages o count n) .passed ≡ howMany isPassed o count n
@@ -159,11 +149,11 @@ module _ (pages : ℕ) (o : ℕ → ℕ → Outcome) (count : ℕ → ℕ) where
 
   -- ---- the sections
   pub rows-none : record { passed = 0; skips = 0; refused = 0; fixups = 0; outside = 0 } ≡ rowsTo pages o count 0
-  unfolding rowsTo
+  unfolding foldSections
   rows-none = refl
 
   pub rows-again : (i : ℕ) (s r : Tally) → s ≡ rowsTo pages o count i → Counted (rowTo pages o i s (count i)) i r → r ≡ rowsTo pages o count (i + 1)
-  unfolding rowsTo
+  unfolding foldSections
   rows-again i s r e c = rw (add-one i, ← e) (c .same)
 
   pub rows-end : (i n m : ℕ) (s : Tally) → s ≡ rowsTo pages o count i → i ≤ n → n ≤ i → n ≡ m → s ≡ tallyOf pages o count m
@@ -184,9 +174,8 @@ unfolding readOutcome
 read-is a f target rs home i k x e = e
 
 rows-same : (pages : ℕ) (o p : ℕ → ℕ → Outcome) (i : ℕ) (t : Tally) → ((k : ℕ) → o i k ≡ p i k) → (k : ℕ) → rowTo pages o i t k ≡ rowTo pages p i t k
-unfolding rowTo
-rows-same pages o p i t e zero = refl
-rows-same pages o p i t e (suc k) = rw (rows-same pages o p i t e k, e k)
+unfolding tallyStep
+rows-same pages o p i t e k = records-same (tallyStep pages o) (tallyStep pages p) i (λ j s. ap (tallied pages s) (e j)) t k
 
 pub section-end : (a : Arch) (f : List ℕ) (h : Header) (homes : List ℕ) (target : ℕ → Target) (pages i : ℕ) (rs : Records) (w : ℕ) (t s : Tally) (k : ℕ)
     → s ≡ rowTo pages (readOutcome a f target rs (wordHome w)) i t k → rs ≡ recordsOf f h i → w ≡ getD homes i 0 → AtMost s (2 ^ 32 * i + k)

@@ -1,18 +1,31 @@
 -- What holds of every fixup that a relocation comes to holds of every element of the fix list; and every fixup and every skip stands in its list.
-use mathlib.Core.Path.{_≡_, refl, ap, _∙_}
-use mathlib.Core.List.{List, [], _∷_, _++_}
+use mathlib.Core.Path.{_≡_, refl, sym, ap, _∙_}
+use mathlib.Core.List.{List, [], _∷_, _++_, append-nil, append-assoc}
 use mathlib.Core.Logic.{⊎-elim}
 use Prim.Native.Nat.{ℕ, zero, suc, _+_, _-_, _<_}
 use native.Mathlib.Omega.{arith}
-use native.Mathlib.Nat.{not-suc-le-zero, le-of-suc-le-suc, eq-or-lt-of-le}
+use native.Mathlib.Nat.{not-suc-le-zero, le-of-suc-le-suc}
 use lib.ListN.{length, getD, length-append, List·getD-append}
 use lib.Seq.{getD-append-add}
 use Rattle.util.specs.Pick.{le-or-lt}
+use Rattle.util.specs.Fold.{foldRecords, foldSections, records-both, sections-each, sections-made}
 use Rattle.targets.specs.declared.Skip.{Skip}
 use Rattle.fixups.specs.declared.Fix.{Fix}
 use Rattle.fixups.specs.declared.Outcome.{Outcome}
 use Rattle.fixups.specs.declared.Outcome.the-variants.{Passed, Skipped, Refused, Fixup}
-use Rattle.fixups.specs.Lists.{overRecords, overSections, fixesOf, fixAtRecord, fixList, skipAtRecord, skipList}
+use Rattle.fixups.specs.Lists.{appendStep, overRecords, overSections, fixesOf, fixAtRecord, fixList, skipAtRecord, skipList}
+
+-- a section's list goes behind those of the sections before it
+module _ {A : Type 0} (out : ℕ → ℕ → List A) where
+  behind : (i : ℕ) (xs : List A) (k : ℕ) → foldRecords (appendStep out) i xs k ≡ xs ++ overRecords out i k
+  unfolding appendStep
+  behind i xs k =
+      records-both (appendStep out) (appendStep out) (λ a b. a ≡ xs ++ b) i xs [] k
+      (λ j a b l e. ap (λ c. c ++ out i j) e ∙ append-assoc xs b (out i j)) (sym (append-nil xs))
+
+  pub section-behind : (count : ℕ → ℕ) (i : ℕ) → overSections out count (suc i) ≡ overSections out count i ++ overRecords out i (count i)
+  unfolding foldSections
+  section-behind count i = behind i (overSections out count i) (count i)
 
 -- P of every element of a list
 abbrev pub Each : {A : Type 0} → (A → Type 0) → List A → Type 0
@@ -33,20 +46,9 @@ module _ {A : Type 0} (P : A → Type 0) where
       (λ k. rw (List·getD-append xs ys d j k) (p j d k))
       (le-or-lt (length xs) j)
 
-  module _ (out : ℕ → ℕ → List A) where
-    each-record : (i n : ℕ) → ((k : ℕ) → k < n → Each P (out i k)) → Each P (overRecords out i n)
-    unfolding overRecords
-    each-record i zero h = each-none
-    each-record i (suc n) h =
-        each-append (overRecords out i n) (out i n) (each-record i n (λ k l. h k (omega arith))) (h n (omega arith))
-
-    each-section : (count : ℕ → ℕ) (n : ℕ) → ((i k : ℕ) → i < n → k < count i → Each P (out i k)) → Each P (overSections out count n)
-    unfolding overSections
-    each-section count zero h = each-none
-    each-section count (suc n) h =
-        each-append (overSections out count n) (overRecords out n (count n))
-        (each-section count n (λ i k l. h i k (omega arith)))
-        (each-record n (count n) (λ k. h n k (omega arith)))
+  each-section : (out : ℕ → ℕ → List A) (count : ℕ → ℕ) (n : ℕ) → ((i k : ℕ) → i < n → k < count i → Each P (out i k)) → Each P (overSections out count n)
+  unfolding appendStep
+  each-section out count n h = sections-each (appendStep out) (Each P) count [] n (λ i k xs l q p. each-append xs (out i k) p (h i k l q)) each-none
 
 module _ (P : Fix → Type 0) where
   each-one : (x : Fix) → P x → Each P (x ∷ [])
@@ -86,22 +88,10 @@ module _ {A : Type 0} (x : A) where
       let h = s .inside in
       record { position = length xs + s .position; inside = omega arith; is = λ d. getD-append-add xs ys (s .position) d ∙ s .is d }
 
-  module _ (out : ℕ → ℕ → List A) where
-    stands-record : (i n k : ℕ) → k < n → Stands x (out i k) → Stands x (overRecords out i n)
-    unfolding overRecords
-    stands-record i zero k h s = absurd (not-suc-le-zero h)
-    stands-record i (suc n) k h s =
-        ⊎-elim (λ q. stands-right (overRecords out i n) (out i n) (rw (← q) s)) (λ lt. stands-left (overRecords out i n) (out i n) (stands-record i n k lt s))
-        (eq-or-lt-of-le (le-of-suc-le-suc h))
-
-    stands-section : (count : ℕ → ℕ) (n i k : ℕ) → i < n → k < count i → Stands x (out i k) → Stands x (overSections out count n)
-    unfolding overSections
-    stands-section count zero i k h l s = absurd (not-suc-le-zero h)
-    stands-section count (suc n) i k h l s =
-        ⊎-elim
-        (λ q. stands-right (overSections out count n) (overRecords out n (count n)) (rw (← q) (stands-record i (count i) k l s)))
-        (λ lt. stands-left (overSections out count n) (overRecords out n (count n)) (stands-section count n i k lt l s))
-        (eq-or-lt-of-le (le-of-suc-le-suc h))
+  stands-section : (out : ℕ → ℕ → List A) (count : ℕ → ℕ) (n i k : ℕ) → i < n → k < count i → Stands x (out i k) → Stands x (overSections out count n)
+  unfolding appendStep
+  stands-section out count n i k h l s =
+      sections-made (appendStep out) (Stands x) (λ xs j m. stands-left xs (out j m)) count [] n i k h l (λ xs. stands-right xs (out i k) s)
 
 module _ (o : ℕ → ℕ → Outcome) (count : ℕ → ℕ) (n i k : ℕ) (section : i < n) (index : k < count i) where
   -- a relocation that comes to a fixup has it in the fix list

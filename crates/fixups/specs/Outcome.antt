@@ -3,6 +3,7 @@ use mathlib.Core.Path.{_≡_, refl, ap, _∙_}
 use mathlib.Core.List.{List}
 use Prim.Native.Nat.{ℕ, _+_}
 use lib.ListN.{getD}
+use Rattle.refusal.specs.Refusal.{TARGET}
 use Rattle.arch.specs.declared.Arch.{Arch}
 use Rattle.arch.specs.declared.RVA.{RVA}
 use Rattle.arch.specs.declared.Offset.{Offset}
@@ -25,6 +26,13 @@ use Rattle.fixups.specs.declared.Fix.{Fix}
 use Rattle.fixups.specs.declared.Outcome.{Outcome}
 use Rattle.fixups.specs.declared.Outcome.the-variants.{Passed, Skipped, Refused, Fixup}
 
+-- the refusal of each case (01, "Survey"), 0 where there is none
+abbrev pub outcomeRefusal : Outcome → ℕ
+outcomeRefusal Passed = 0
+outcomeRefusal (Skipped k) = 0
+outcomeRefusal Refused = TARGET
+outcomeRefusal (Fixup x) = 0
+
 -- with place and target known, the type decides: an unknown one is skipped, one that is not carried is refused
 unfoldable pub byKind : RelocationKind → Fix → Outcome
 byKind Absolute x = Fixup x
@@ -38,6 +46,7 @@ byKind Unknown x = Skipped NoType
 abbrev pub fixOf : RelocationType → RVA → RVA → Fix
 fixOf t place target = record { place = place; bits = t .bits; kind = t .kind; target = target; addend = t .addend }
 
+-- its outcome, where its symbol has a target
 abbrev pub fixAt : RelocationType → RVA → RVA → Outcome
 fixAt t place target = byKind (t .kind) (fixOf t place target)
 
@@ -49,11 +58,20 @@ resolved (Slot o) t place = fixAt t place o
 resolved (Missing k) t place = Skipped k
 resolved target.Refused t place = Refused
 
--- a relocation record of a section, by the section's home: without one it is passed; its place is the home's start and the address field.
--- `target` says what each number of a symbol comes to
-unfoldable pub byHome : Arch → (ℕ → Target) → Offset → Relocation → Outcome
-byHome arch target (At start) r = resolved (target (r .symbol)) (typeOf arch (r .typ)) (rva (start .0 + r .address))
-byHome arch target None r = Passed
+-- a relocation by its section's home, its address field, its type and what its symbol comes to: without a home it is passed; its place is the home's start and
+-- the address field
+unfoldable pub outcomeAt : Offset → ℕ → RelocationType → Target → Outcome
+outcomeAt (At start) address t g = resolved g t (rva (start .0 + address))
+outcomeAt None address t g = Passed
+
+-- by its record; `target` says what each number of a symbol comes to
+abbrev pub byHome : Arch → (ℕ → Target) → Offset → Relocation → Outcome
+byHome arch target home r = outcomeAt home (r .address) (typeOf arch (r .typ)) (target (r .symbol))
+
+-- what is found part by part is what its record comes to
+pub by-record : (arch : Arch) (target : ℕ → Target) (home : Offset) (r s : Relocation) (t : RelocationType) (g : Target) (x : Outcome) → r ≡ s → t ≡ typeOf arch (r .typ)
+    → g ≡ target (r .symbol) → x ≡ outcomeAt home (r .address) t g → x ≡ byHome arch target home s
+by-record arch target home r s t g x e q p z = rw (← e, ← q, ← p) z
 
 -- relocation k of section i; `home` says where a section's home starts. Refusal 10's cases are in two places: the symbol's in `targetOf`, the
 -- type that is not carried in `byKind`

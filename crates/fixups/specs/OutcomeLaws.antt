@@ -1,9 +1,9 @@
--- What a fixup tells of its relocation, and that a home's relocations are not passed; for every file, all homes and all slots.
+-- What a fixup tells of its relocation; a home's relocations are not passed, and are refused where their targets are; for every file, all homes and all slots.
 use mathlib.Core.Path.{_≡_, refl, sym, ap, _∙_}
 use mathlib.Core.Bool.{false}
 use mathlib.Core.List.{List}
 use mathlib.Core.Logic.{_⊎_, inl, inr, ⊎-elim}
-use Prim.Native.Nat.{ℕ, _+_}
+use Prim.Native.Nat.{ℕ, suc, _+_}
 use native.Mathlib.Omega.{arith}
 use Rattle.util.specs.Pick.{pick-either}
 use Rattle.arch.specs.declared.Arch.{Arch}
@@ -22,9 +22,10 @@ use Rattle.targets.specs.declared.Skip.the-variants.{NoType}
 use Rattle.targets.specs.declared.Target.{Target}
 use Rattle.targets.specs.declared.Target.the-variants as target
 use Rattle.targets.specs.declared.Target.the-variants.{Home, Named, Slot, Missing}
+use Rattle.targets.specs.Target.{targetRefusal}
 use Rattle.fixups.specs.declared.Fix.{Fix}
 use Rattle.fixups.specs.declared.Outcome.the-variants.{Passed, Skipped, Refused, Fixup}
-use Rattle.fixups.specs.Outcome.{byKind, fixOf, fixAt, resolved, byHome, outcome}
+use Rattle.fixups.specs.Outcome.{byKind, fixOf, fixAt, resolved, outcomeAt, byHome, outcome, outcomeRefusal}
 use Rattle.fixups.specs.Tally.{isPassed}
 
 -- ---- the types that are carried have 32 or 64 bits
@@ -84,6 +85,7 @@ by-bits t x y b e =
     (⊎-elim (λ n. absurd (let z : Skipped NoType ≡ Fixup y = rw n at e in let w : _≡_ {A = ℕ} 0 1 = cc in omega arith)) (λ r. r))
     (b .carried)
 
+-- fixup x of type t at a place, by what its symbol comes to
 pub record Resolved (g : Target) (t : RelocationType) (place : RVA) (x : Fix) : Type 0 where
   pub reaches : Reaches g (x .target)
   pub is : x ≡ fixOf t place (x .target)
@@ -116,7 +118,7 @@ pub record FixFrom (a : Arch) (f : List ℕ) (h : Header) (home : ℕ → Offset
 
 module _ (a : Arch) (f : List ℕ) (h : Header) (home : ℕ → Offset) (target : ℕ → Target) (i k : ℕ) (x : Fix) where
   from-home : (o : Offset) → home i ≡ o → byHome a target o (relocation f h i k) ≡ Fixup x → FixFrom a f h home target i k x
-  unfolding byHome relocationIn
+  unfolding outcomeAt relocationIn
   from-home (At start) q e =
       let r = resolved-fix (target (relocationSymbol f h i k)) (typeOf a (relocationType f h i k)) (rva (start .0 + relocationAddress f h i k)) x (has-bits a (relocationType f h i k)) e in
       record { start = start; homed = q; resolved = r }
@@ -146,6 +148,21 @@ resolved-not-passed target.Refused t place = refl
 
 pub homed-not-passed : (a : Arch) (f : List ℕ) (h : Header) (home : ℕ → Offset) (target : ℕ → Target) (i k : ℕ) (start : RVA) → home i ≡ At start
     → isPassed (outcome a f h home target i k) ≡ false
-unfolding outcome byHome relocationIn
+unfolding outcome outcomeAt relocationIn
 homed-not-passed a f h home target i k start e =
     rw e (resolved-not-passed (target (relocationSymbol f h i k)) (typeOf a (relocationType f h i k)) (rva (start .0 + relocationAddress f h i k)))
+
+-- ---- a target's refusal is its relocation's, whatever the type
+resolved-refused : (g : Target) (t : RelocationType) (place : RVA) (n : ℕ) → targetRefusal g ≡ suc n → outcomeRefusal (resolved g t place) ≡ suc n
+unfolding resolved
+resolved-refused (Home o) t place n e = absurd (omega arith)
+resolved-refused (Named o) t place n e = absurd (omega arith)
+resolved-refused (Slot o) t place n e = absurd (omega arith)
+resolved-refused (Missing k) t place n e = absurd (omega arith)
+resolved-refused target.Refused t place n e = e
+
+pub homed-refused : (a : Arch) (f : List ℕ) (h : Header) (home : ℕ → Offset) (target : ℕ → Target) (i k : ℕ) (start : RVA) (n : ℕ) → home i ≡ At start
+    → targetRefusal (target (relocationSymbol f h i k)) ≡ suc n → outcomeRefusal (outcome a f h home target i k) ≡ suc n
+unfolding outcome outcomeAt relocationIn
+homed-refused a f h home target i k start n e r =
+    rw e (resolved-refused (target (relocationSymbol f h i k)) (typeOf a (relocationType f h i k)) (rva (start .0 + relocationAddress f h i k)) n r)

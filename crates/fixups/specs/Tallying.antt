@@ -1,14 +1,17 @@
 -- What the parts of the pass promise: a tally after one outcome more, after the first k records of a section, and after the first n sections.
 use mathlib.Core.Path.{_≡_}
-use Prim.Native.Nat.{ℕ, zero, suc, _+_, _*_, _^_, _≤_}
+use Prim.Native.Nat.{ℕ, _+_, _*_, _^_, _≤_}
 use Rattle.util.specs.Pick.{pick}
+use Rattle.util.specs.Fold.{foldRecords, foldSections}
 use Rattle.fixups.specs.declared.Outcome.{Outcome}
 use Rattle.fixups.specs.declared.Tally.{Tally}
 use Rattle.fixups.specs.Tally.{isPassed, isSkipped, isRefused, isFixup, isOutside}
 
+-- before the first relocation
 abbrev pub nothing : Tally
 nothing = record { passed = 0; skips = 0; refused = 0; fixups = 0; outside = 0 }
 
+-- after one outcome more
 unfoldable pub tallied : ℕ → Tally → Outcome → Tally
 tallied pages t o =
     record {
@@ -19,14 +22,17 @@ tallied pages t o =
       outside = pick (isOutside pages o) (t .outside + 1) (t .outside);
     }
 
-unfoldable pub rowTo : ℕ → (ℕ → ℕ → Outcome) → ℕ → Tally → ℕ → Tally
-rowTo pages o i t zero = t
-rowTo pages o i t (suc k) = tallied pages (rowTo pages o i t k) (o i k)
+-- with what record k of section i comes to
+unfoldable pub tallyStep : ℕ → (ℕ → ℕ → Outcome) → Tally → ℕ → ℕ → Tally
+tallyStep pages o t i k = tallied pages t (o i k)
+
+-- after the first k records of section i, with t before them
+abbrev pub rowTo : ℕ → (ℕ → ℕ → Outcome) → ℕ → Tally → ℕ → Tally
+rowTo pages o i t k = foldRecords (tallyStep pages o) i t k
 
 -- of the first n sections
-unfoldable pub rowsTo : ℕ → (ℕ → ℕ → Outcome) → (ℕ → ℕ) → ℕ → Tally
-rowsTo pages o count zero = nothing
-rowsTo pages o count (suc i) = rowTo pages o i (rowsTo pages o count i) (count i)
+abbrev pub rowsTo : ℕ → (ℕ → ℕ → Outcome) → (ℕ → ℕ) → ℕ → Tally
+rowsTo pages o count n = foldSections (tallyStep pages o) count nothing n
 
 -- no count is above n
 pub record AtMost (t : Tally) (n : ℕ) : Type 0 where

@@ -20,17 +20,20 @@ use Rattle.fixups.specs.declared.Fix.{Fix}
 use Rattle.fixups.specs.Value.{isRelative, shift, valueOf}
 use Rattle.fixups.specs.Signed.{signed, signed-low, signed-high, difference-same, difference-is, low-keeps}
 
--- ---- addends, in two's complement of 64 bits: a relative type has 32 bits and -4 to -9, any other 0
+-- ---- addends, in two's complement of 64 bits
+-- a relative type has 32 bits and -4 to -9
 pub record TakesAway (k : RelocationKind) (bits addend : ℕ) : Type 0 where
   pub relative : isRelative k ≡ true
   pub narrow : bits ≡ 32
   pub least : 2 ^ 64 - 9 ≤ addend
   pub most : addend ≤ 2 ^ 64 - 4
 
+-- any other has 0
 pub record AddsNone (k : RelocationKind) (addend : ℕ) : Type 0 where
   pub other : isRelative k ≡ false
   pub none : addend ≡ 0
 
+-- one of the two, whatever the type
 abbrev pub Addend : RelocationKind → ℕ → ℕ → Type 0
 Addend k bits addend = TakesAway k bits addend ⊎ AddsNone k addend
 

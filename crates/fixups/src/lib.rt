@@ -4,7 +4,7 @@ mod tallies;
 
 use arch::RVA;
 use kinds::RelocationKind;
-pub use outcomes::outcome_of;
+pub use outcomes::outcome_at;
 pub use outcomes::value;
 pub use tallies::tally_of;
 use targets::Skip;
@@ -18,6 +18,7 @@ pub struct Fix {
     pub addend: u64,
 }
 
+// What becomes of a relocation: each is passed, skipped for a reason, refused by 10, or a fixup of the list.
 pub enum Outcome {
     Passed,
     Skipped(Skip),

@@ -1,22 +1,15 @@
 // What becomes of a relocation, and a fixup's value.
 use crate::Fix;
 use crate::Outcome;
-use arch::Arch;
 use arch::RVA;
 use arch::VA;
 use kinds::RelocationKind;
 use kinds::RelocationType;
-use object::Records;
-use object::Relocation;
 use targets::Skip;
 use targets::Target;
 ghost use mathlib.Core.Path.{_≡_};
-ghost use Rattle.arch.specs.declared.Offset.the-variants.{At};
-ghost use Rattle.arch.specs.Address.{rva};
-ghost use Rattle.object.specs.Relocation.{relocationIn, recordAt};
 ghost use Rattle.homes.specs.Home.{wordHome};
-ghost use Rattle.targets.specs.Table.{targetIn};
-ghost use Rattle.fixups.specs.Outcome.{byKind, fixAt, resolved, byHome};
+ghost use Rattle.fixups.specs.Outcome.{byKind, fixAt, resolved, outcomeAt};
 ghost use Rattle.fixups.specs.Value.{isRelative, valueOf};
 
 fn by_kind(kind: RelocationKind, x: Fix) -> Outcome
@@ -58,54 +51,14 @@ fn resolved(target: Target, t: RelocationType, place: RVA) -> Outcome
     }
 }
 
-// A record of a section whose home starts at `start`.
-fn at_home(
-    arch: Arch,
-    homes: &[u32],
-    starts: &[u32],
-    undef: u32,
-    codes: &[u16],
-    start: u32,
-    r: Relocation,
-) -> Outcome
-    ensures { λ x. ⌜ x ≡ byHome arch (targetIn (now (homes .entry)) (now (starts .entry)) undef (now (codes .entry))) (At (rva start)) r ⌝ }
-{
-    let place = RVA(start as u64 + r.address as u64);
-    let t = kinds::type_of(arch, r.typ);
-    resolved(
-        targets::target_in(homes, starts, undef, codes, r.symbol),
-        t,
-        place,
-    )
-}
-
-// What becomes of relocation k of a section: `records` says where its records are, `word` is what is kept of its home; `homes`, `starts` and
-// `codes` have what is kept of the sections and the symbols.
-pub fn outcome_of(
-    arch: Arch,
-    f: &[u8],
-    records: Records,
-    word: u32,
-    homes: &[u32],
-    starts: &[u32],
-    undef: u32,
-    codes: &[u16],
-    k: u32,
-) -> Outcome
-    ensures { λ r. ⌜ r ≡ byHome arch (targetIn (now (homes .entry)) (now (starts .entry)) undef (now (codes .entry))) (wordHome word) (relocationIn (now (f .entry)) (recordAt records k)) ⌝ }
+// What becomes of a relocation with that address field: `word` is what is kept of its section's home, t is its type, g what its symbol comes to.
+pub fn outcome_at(word: u32, address: u32, t: RelocationType, g: Target) -> Outcome
+    ensures { λ r. ⌜ r ≡ outcomeAt (wordHome word) address t g ⌝ }
 {
     if word == 0 {
         Outcome::Passed
     } else {
-        at_home(
-            arch,
-            homes,
-            starts,
-            undef,
-            codes,
-            word - 1,
-            object::read_relocation(f, records, k),
-        )
+        resolved(g, t, RVA((word - 1) as u64 + address as u64))
     }
 }
 

@@ -6,13 +6,15 @@ use crate::outcomes;
 use arch::Arch;
 use arch::PAGE_SIZE;
 use object::Header;
+use object::Records;
 ghost use mathlib.Core.Path.{_≡_};
 ghost use Prim.Native.Nat.{_+_, _*_, _^_, _<_};
 ghost use Rattle.object.specs.Section.{relocationCount};
-ghost use Rattle.homes.specs.Home.{homeIn};
+ghost use Rattle.object.specs.Relocation.{relocationIn, recordAt};
+ghost use Rattle.homes.specs.Home.{homeIn, wordHome};
 ghost use Rattle.targets.specs.Table.{targetIn};
 ghost use Rattle.fixups.specs.declared.Outcome.the-variants.{Fixup};
-ghost use Rattle.fixups.specs.Outcome.{outcome};
+ghost use Rattle.fixups.specs.Outcome.{byHome, outcome};
 ghost use Rattle.fixups.specs.Tally.{isMapped, tallyOf};
 ghost use Rattle.fixups.specs.Tallying.{tallied, rowTo, AtMost, Counted};
 
@@ -83,6 +85,26 @@ fn with_outcome(pages: u32, t: Tally, o: Outcome) -> Tally
     }
 }
 
+// What becomes of relocation k of a section: `records` says where its records are, `word` is what is kept of its home; `homes`, `starts` and `codes` have what is
+// kept of the sections and the symbols. Each of the two passes over the relocations (the other is in `lists`) has its own, to be compiled into its loop.
+fn outcome_of(
+    arch: Arch,
+    f: &[u8],
+    records: Records,
+    word: u32,
+    homes: &[u32],
+    starts: &[u32],
+    undef: u32,
+    codes: &[u16],
+    k: u32,
+) -> Outcome
+    ensures { λ r. ⌜ r ≡ byHome arch (targetIn (now (homes .entry)) (now (starts .entry)) undef (now (codes .entry))) (wordHome word) (relocationIn (now (f .entry)) (recordAt records k)) ⌝ }
+{
+    let r = object::read_relocation(f, records, k);
+    let target = targets::target_in(homes, starts, undef, codes, r.symbol);
+    outcomes::outcome_at(word, r.address, kinds::type_of(arch, r.typ), target)
+}
+
 // The records of section i.
 fn with_section(
     arch: Arch,
@@ -105,7 +127,7 @@ fn with_section(
     let mut sum = t;
     let mut k: u32 = 0;
     while k < m {
-        let o = outcomes::outcome_of(arch, f, records, word, homes, starts, undef, codes, k);
+        let o = outcome_of(arch, f, records, word, homes, starts, undef, codes, k);
         sum = with_outcome(pages, sum, o);
         k += 1;
     }

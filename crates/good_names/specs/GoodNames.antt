@@ -7,10 +7,11 @@ use Rattle.object.specs.declared.Header.{Header}
 use Rattle.object.specs.Symbol.{allSymbols}
 use Rattle.names.specs.Name.{sectionName, symbolName, isGood}
 
--- of section i and of symbol j
+-- of section i
 abbrev pub sectionNameOk : List ℕ → Header → ℕ → Bool
 sectionNameOk f h i = isGood (sectionName f h i)
 
+-- of symbol j
 abbrev pub nameOk : List ℕ → Header → ℕ → Bool
 nameOk f h j = isGood (symbolName f h j)
 

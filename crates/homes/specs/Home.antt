@@ -27,26 +27,29 @@ module _ (f : List ℕ) (h : Header) where
   unfoldable pub isHome : ℕ → ℕ → Bool
   isHome s j = loaded f h j && eqb (fileStart f h j) s
 
-  -- the first table record that starts at s, and section i's home
+  -- the first table record whose file start is s
   abbrev pub homeAt : ℕ → Home
   homeAt s = firstIn (isHome s) (eqb s 0) 0 (h .sections)
 
+  -- section i's home
   abbrev pub homeOf : ℕ → Home
   homeOf i = homeAt (fileStart f h i)
 
-  -- section j is loaded and has that name; the first table record of that name, "UNDEF" too
+  -- section j is loaded and has that name
   unfoldable pub loadedNamed : List ℕ → ℕ → Bool
   loadedNamed name j = loaded f h j && sameBytes (sectionText f h j) name
 
+  -- the first table record of that name, "UNDEF" too
   abbrev pub namedRecord : List ℕ → Home
   namedRecord name = firstIn (loadedNamed name) (sameBytes name UNDEF) 0 (h .sections)
 
-  -- where a home starts, and its record in the table
+  -- where a home starts
   unfoldable pub homeStart : Home → Offset
   homeStart (Loaded j) = At (rva (startAt f h j))
   homeStart Undef = At (rva (undefStart f h))
   homeStart Nowhere = None
 
+  -- its record's number in the section table; 0 where there is none
   unfoldable pub homeRecord : Home → ℕ
   homeRecord (Loaded j) = recordOf f h j
   homeRecord Undef = recordOf f h (h .sections)
@@ -66,14 +69,16 @@ unfoldable pub homeWord : Offset → ℕ
 homeWord (At o) = (o .0 + 1) % 2 ^ 32
 homeWord None = 0
 
+-- the home that such a word keeps
 unfoldable pub wordHome : ℕ → Offset
 wordHome zero = None
 wordHome (suc o) = At (rva o)
 
--- the words of the sections below n, and the home by word i
+-- the words of the sections below n
 abbrev pub homesTo : List ℕ → Header → ℕ → List ℕ
 homesTo f h n = listTo (λ i. homeWord (homeStart f h (homeOf f h i))) n
 
+-- section i's home by them; past their end there is none
 abbrev pub homeIn : List ℕ → ℕ → Offset
 homeIn homes i = wordHome (getD homes i 0)
 

@@ -28,6 +28,7 @@ ofPlace of none Other = none
 abbrev pub placeHome : (ℕ → Offset) → Place → Offset
 placeHome home p = ofPlace home None p
 
+-- there is a home
 abbrev pub isSome : Offset → Bool
 isSome (At o) = true
 isSome None = false
@@ -36,11 +37,12 @@ isSome None = false
 unfoldable pub listed : List ℕ → Header → (ℕ → Offset) → ℕ → Bool
 listed f h home j = primary f h j && isSome (placeHome home (symbolPlace f h j))
 
--- where a listed symbol is: behind its home's start, as far as its value says
+-- as far behind a home's start as a value says
 unfoldable pub offsetFrom : Offset → ℕ → ℕ
 offsetFrom (At o) value = o .0 + value
 offsetFrom None value = value
 
+-- where listed symbol j is, from the base
 abbrev pub listedOffset : List ℕ → Header → (ℕ → Offset) → ℕ → ℕ
 listedOffset f h home j = offsetFrom (placeHome home (symbolPlace f h j)) (listedValue f h j)
 

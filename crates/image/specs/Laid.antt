@@ -19,18 +19,20 @@ zeroed pages image = splice image 0 (replicate (PAGE-SIZE * pages) 0)
 abbrev pub sectionBytes : List ℕ → Header → ℕ → List ℕ
 sectionBytes f h i = part f (fileStart f h i) (fileEnd f h i - fileStart f h i)
 
--- a loaded section's bytes go to its start, which `starts` keeps; the image after the sections below i
+-- a loaded section's bytes go to its start, which `starts` keeps; an unloaded one leaves the image as it is
 unfoldable pub sectionStep : List ℕ → Header → List ℕ → List ℕ → ℕ → List ℕ
 sectionStep f h starts image i = pick (loaded f h i) (splice image (getD starts i 0) (sectionBytes f h i)) image
 
+-- after the sections below i
 unfoldable pub sectionsLaid : List ℕ → Header → List ℕ → List ℕ → ℕ → List ℕ
 sectionsLaid f h starts image zero = image
 sectionsLaid f h starts image (suc i) = sectionStep f h starts (sectionsLaid f h starts image i) i
 
--- after the first n slots: slot e, 4 bytes at UNDEF + 4 e, holds its own address
+-- slot e, 4 bytes at UNDEF + 4 e, holds its own address
 unfoldable pub slotStep : ℕ → ℕ → List ℕ → ℕ → List ℕ
 slotStep base undef image e = splice image (undef + SLOT-SIZE * e) (le SLOT-SIZE (base + undef + SLOT-SIZE * e))
 
+-- after the slots below e
 unfoldable pub slotsLaid : ℕ → ℕ → List ℕ → ℕ → List ℕ
 slotsLaid base undef image zero = image
 slotsLaid base undef image (suc e) = slotStep base undef (slotsLaid base undef image e) e

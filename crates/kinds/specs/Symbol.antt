@@ -10,23 +10,28 @@ use Rattle.kinds.specs.declared.SymbolKind.the-variants.{Unknown, Text, 
 use Rattle.kinds.specs.declared.Place.{Place}
 use Rattle.kinds.specs.declared.Place.the-variants.{In, Undefined, Common, Absolute, Nowhere, Other}
 
--- ---- storage classes
+-- ---- storage classes (PE/COFF, "Storage Class")
+-- an external symbol: defined here for other objects, or in one of them for this
 abbrev pub CLASS-EXTERNAL : ℕ
 CLASS-EXTERNAL = 2
 
+-- a name of this object alone; with value 0 and auxiliary records it is a section's
 abbrev pub CLASS-STATIC : ℕ
 CLASS-STATIC = 3
 
+-- a label in code
 abbrev pub CLASS-LABEL : ℕ
 CLASS-LABEL = 6
 
+-- the source file's name, in auxiliary records
 abbrev pub CLASS-FILE : ℕ
 CLASS-FILE = 103
 
--- a section, and a weak external name
+-- a section's definition; Microsoft's tools write class 3 instead
 abbrev pub CLASS-SECTION : ℕ
 CLASS-SECTION = 104
 
+-- a weak external symbol, whose auxiliary record names a substitute
 abbrev pub CLASS-WEAK-EXTERNAL : ℕ
 CLASS-WEAK-EXTERNAL = 105
 
@@ -43,6 +48,7 @@ codeOrData type = pick (isFunction type) Text Data
 unfoldable pub staticKind : ℕ → ℕ → ℕ → SymbolKind
 staticKind type value auxiliary = pick (eqb value 0 && not (eqb auxiliary 0)) Section (codeOrData type)
 
+-- by class, type, value and number of auxiliary records; any other class is unknown
 unfoldable pub kindBy : ℕ → ℕ → ℕ → ℕ → SymbolKind
 kindBy class type value auxiliary =
     pick (eqb class CLASS-EXTERNAL || eqb class CLASS-WEAK-EXTERNAL) (codeOrData type)
@@ -81,11 +87,11 @@ kindNumber File = 4
 kindNumber Label = 5
 
 -- the kind that a number of the tables has; a number that is no kind's is unknown
-unfoldable pub kindOf : ℕ → SymbolKind
-kindOf n = pick (eqb n 1) Text (pick (eqb n 2) Data (pick (eqb n 3) Section (pick (eqb n 4) File (pick (eqb n 5) Label Unknown))))
+unfoldable pub kindNumbered : ℕ → SymbolKind
+kindNumbered n = pick (eqb n 1) Text (pick (eqb n 2) Data (pick (eqb n 3) Section (pick (eqb n 4) File (pick (eqb n 5) Label Unknown))))
 
-pub kind-is : (k : SymbolKind) → kindOf (kindNumber k) ≡ k
-unfolding kindOf pick
+pub kind-is : (k : SymbolKind) → kindNumbered (kindNumber k) ≡ k
+unfolding kindNumbered pick
 kind-is Unknown = refl
 kind-is Text = refl
 kind-is Data = refl

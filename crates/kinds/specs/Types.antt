@@ -10,16 +10,20 @@ use Rattle.kinds.specs.declared.RelocationKind.{RelocationKind}
 use Rattle.kinds.specs.declared.RelocationKind.the-variants.{Absolute, ImageOffset, SectionOffset, Relative, NotCarried, Unknown}
 use Rattle.kinds.specs.declared.RelocationType.{RelocationType}
 
--- ---- the types of each machine: kind, bits and addend; the addend is in two's complement of 64 bits
+-- ---- the types of each machine
+-- kind, bits and addend; the addend is in two's complement of 64 bits
 abbrev pub row : RelocationKind → ℕ → ℕ → RelocationType
 row kind bits addend = record { kind = kind; bits = bits; addend = addend }
 
+-- -n, as an addend
 abbrev pub minus : ℕ → ℕ
 minus n = 2 ^ 64 - n
 
+-- a relocation of such a type that is neither passed nor skipped is refused (10)
 abbrev pub notCarried : RelocationType
 notCarried = row NotCarried 0 0
 
+-- a type that no row names: a relocation of it is skipped (K4) where no earlier reason applies
 abbrev pub unknown : RelocationType
 unknown = row Unknown 0 0
 
@@ -49,7 +53,7 @@ unfoldable pub typeOf : Arch → ℕ → RelocationType
 typeOf X32 t = type32 t
 typeOf X64 t = type64 t
 
--- the number of a kind, and the kind of a number
+-- the number that the code's tables of types have for a kind
 abbrev pub relocationKindNumber : RelocationKind → ℕ
 relocationKindNumber Absolute = 0
 relocationKindNumber ImageOffset = 1
@@ -58,6 +62,7 @@ relocationKindNumber Relative = 3
 relocationKindNumber NotCarried = 4
 relocationKindNumber Unknown = 5
 
+-- the kind of such a number; any number above 4 is unknown
 unfoldable pub kindOfNumber : ℕ → RelocationKind
 kindOfNumber n =
     pick (eqb n 0) Absolute (pick (eqb n 1) ImageOffset (pick (eqb n 2) SectionOffset (pick (eqb n 3) Relative (pick (eqb n 4) NotCarried Unknown))))

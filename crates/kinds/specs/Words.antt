@@ -100,6 +100,7 @@ placeNumber places.Absolute = some (negsuc 0)
 placeNumber places.Nowhere = some (negsuc 1)
 placeNumber places.Other = none
 
+-- as 01's table of types has it
 abbrev pub relocationKindWord : RelocationKind → List ℕ
 relocationKindWord relocations.Absolute = ABSOLUTE
 relocationKindWord relocations.ImageOffset = IMAGE-OFFSET

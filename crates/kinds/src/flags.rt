@@ -2,13 +2,15 @@
 ghost use mathlib.Core.Path.{_≡_};
 ghost use Rattle.kinds.specs.Flags.{loadedBy, alignOf, permissionsBy};
 
-// The flags that are looked at.
+// The flags that are looked at, from PE/COFF's "Section Flags".
 const LNK_REMOVE: u32 = 0x800;
 
 const MEM_DISCARDABLE: u32 = 0x2000000;
 
+// The section has no bytes in the file.
 pub const CNT_UNINITIALIZED: u32 = 0x80;
 
+// The count of relocations stands in the first of them.
 pub const LNK_NRELOC_OVFL: u32 = 0x1000000;
 
 const MEM_EXECUTE: u32 = 0x20000000;

@@ -1,6 +1,6 @@
 // What the numbers in a COFF object's records mean: kinds and places of symbols, flags of sections, types of relocations. No file is read here.
 mod flags;
-mod symbols;
+mod symbol_kinds;
 mod types;
 
 pub use flags::CNT_UNINITIALIZED;
@@ -8,12 +8,13 @@ pub use flags::LNK_NRELOC_OVFL;
 pub use flags::align_of;
 pub use flags::loaded_by;
 pub use flags::permissions_by;
-pub use symbols::kind_by;
-pub use symbols::kind_number;
-pub use symbols::listed_by;
-pub use symbols::place_by;
+pub use symbol_kinds::kind_by;
+pub use symbol_kinds::kind_number;
+pub use symbol_kinds::listed_by;
+pub use symbol_kinds::place_by;
 pub use types::type_of;
 
+// What a symbol is: of a class that is not known, code, data, a section, a source file or a label.
 pub enum SymbolKind {
     Unknown,
     Text,
@@ -33,6 +34,7 @@ pub enum Place {
     Other,
 }
 
+// What a type stands for: an address, an offset in the image or the section, a distance from the place; one that is refused; one that is skipped.
 pub enum RelocationKind {
     Absolute,
     ImageOffset,

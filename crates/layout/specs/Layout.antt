@@ -31,6 +31,7 @@ module _ (f : List ℕ) (h : Header) where
   abbrev pub recordOf : ℕ → ℕ
   recordOf i = countTo (loaded f h) i
 
+  -- how many records the table has
   abbrev pub tableRecords : ℕ
   tableRecords = recordOf (h .sections) + 1
 

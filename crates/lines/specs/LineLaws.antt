@@ -6,7 +6,7 @@ use lib.ListN.{length, length-append}
 use Rattle.kinds.specs.declared.SymbolKind.{SymbolKind}
 use Rattle.kinds.specs.declared.SymbolKind.the-variants.{Unknown, Text, Data, Section, File, Label}
 use Rattle.kinds.specs.Words.{kindWord}
-use Rattle.text.specs.Text.{permissions}
+use Rattle.text.specs.Text.{permissionsText}
 use Rattle.text.specs.TextLaws.{hex-long, decimal-long, signed-long}
 use Rattle.lines.specs.Lines.{imageLine, sectionPlaces, sectionLine, symbolLine, externLine, fixLine, skipLine, skippedLine, refusedLine}
 
@@ -24,7 +24,7 @@ image-long base pages a b = simp length-append (omega (arith, hex-long base a, d
 
 pub section-long : (start end from to allowed : ℕ) (name : List ℕ) → start < 2 ^ 64 → end < 2 ^ 64 → from < 2 ^ 64 → to < 2 ^ 64
     → length (sectionLine start end from to allowed name) ≤ 120 + length name
-unfolding sectionLine sectionPlaces permissions
+unfolding sectionLine sectionPlaces permissionsText
 section-long start end from to allowed name a b c d =
     simp length-append (omega (arith, hex-long start a, hex-long end b, decimal-long from c, decimal-long to d))
 

@@ -10,9 +10,9 @@ use text::put_decimal;
 use text::put_text;
 ghost use mathlib.Core.List.{_++_};
 ghost use Rattle.kinds.specs.Words.{kindWord};
-ghost use Rattle.text.specs.Text.{decimal, word, Puts};
+ghost use Rattle.text.specs.Text.{decimalText, word, Puts};
 ghost use Rattle.lines.specs.Lines.{
-  K,
+  K-WORD,
   imageLine,
   sectionPlaces,
   sectionLine,
@@ -99,7 +99,7 @@ pub fn fix_line(out: &mut [u8], place: VA, bits: u64, value: u64) -> usize
 }
 
 fn reason_word(out: &mut [u8], at: usize, reason: u64) -> usize
-    ensures { λ r. ⌜ Puts (now (out .entry)) at (K ++ decimal reason) (now (out .exit)) r ⌝ }
+    ensures { λ r. ⌜ Puts (now (out .entry)) at (K-WORD ++ decimalText reason) (now (out .exit)) r ⌝ }
 {
     let to = put_byte(out, at, b'K');
     put_decimal(out, to, reason)

@@ -8,13 +8,14 @@ use lib.ListN.{getD, List·getD-eq-default}
 use Rattle.util.specs.Pick.{pick}
 use Rattle.util.specs.Prefix.{listTo}
 use Rattle.le.specs.Le.{get, part, splice}
-use Rattle.kinds.specs.Symbol.{kindOf}
+use Rattle.kinds.specs.Symbol.{kindNumbered}
 use Rattle.kinds.specs.declared.SymbolKind.{SymbolKind}
+use Rattle.names.specs.Bytes.{UNDEF}
 use Rattle.words.specs.Words.{wordOf}
 use Rattle.survey.specs.declared.answer.Counts.{Counts}
 use Rattle.text.specs.Text.{Puts}
 use Rattle.lines.specs.Lines.{sectionLine, symbolLine, externLine, fixLine, skipLine}
-use Rattle.listing.specs.Listing.{UNDEF, sectionTitle, sectionAt, symbolAt, externAt, fixAt, skipAt, lineCount}
+use Rattle.listing.specs.Listing.{sectionTitle, sectionLineAt, symbolLineAt, externLineAt, fixLineAt, skipLineAt, lineCount}
 use Rattle.listing.specs.ListingLaws.{at-row, behind-rows}
 
 pub word-is : (t : List ℕ) (width i w r : ℕ) → r ≡ get 8 t (8 * (width * i + w)) → r ≡ wordOf width t i w
@@ -61,23 +62,23 @@ pub ruleset first-ways = (first-put, behind-put)
 -- ---- the line of a record
 module _ (f t : List ℕ) (i : ℕ) (l e : List ℕ) (q : ℕ) where
   pub undef-put : (x : ℕ) → x ≡ wordOf 8 t i 7 → x ≡ 0
-      → Puts l 0 (sectionLine (wordOf 8 t i 0) (wordOf 8 t i 1) (wordOf 8 t i 2) (wordOf 8 t i 3) (wordOf 8 t i 4) UNDEF) e q → Puts l 0 (sectionAt f t i) e q
-  unfolding sectionAt sectionTitle pick
+      → Puts l 0 (sectionLine (wordOf 8 t i 0) (wordOf 8 t i 1) (wordOf 8 t i 2) (wordOf 8 t i 3) (wordOf 8 t i 4) UNDEF) e q → Puts l 0 (sectionLineAt f t i) e q
+  unfolding sectionLineAt sectionTitle pick
   undef-put x d z p = rw (← d, z) p
 
   pub section-put : (x a n : ℕ) (name : List ℕ) → x ≡ wordOf 8 t i 7 → (x ≡ 0 → ⊥) → a ≡ wordOf 8 t i 5 → n ≡ wordOf 8 t i 6 → name ≡ part f a n
-      → Puts l 0 (sectionLine (wordOf 8 t i 0) (wordOf 8 t i 1) (wordOf 8 t i 2) (wordOf 8 t i 3) (wordOf 8 t i 4) name) e q → Puts l 0 (sectionAt f t i) e q
-  unfolding sectionAt sectionTitle pick
+      → Puts l 0 (sectionLine (wordOf 8 t i 0) (wordOf 8 t i 1) (wordOf 8 t i 2) (wordOf 8 t i 3) (wordOf 8 t i 4) name) e q → Puts l 0 (sectionLineAt f t i) e q
+  unfolding sectionLineAt sectionTitle pick
   section-put x a n name d z y w s p = rw (← d, ne-eqb x 0 z, ← y, ← w, ← s) p
 
   pub symbol-put : (x y a n : ℕ) (kind : SymbolKind) (name : List ℕ) → a ≡ wordOf 6 t i 2 → n ≡ wordOf 6 t i 3 → name ≡ part f a n → x ≡ wordOf 6 t i 0 → y ≡ wordOf 6 t i 1
-      → kind ≡ kindOf y → Puts l 0 (symbolLine x kind name) e q → Puts l 0 (symbolAt f t i) e q
-  unfolding symbolAt
+      → kind ≡ kindNumbered y → Puts l 0 (symbolLine x kind name) e q → Puts l 0 (symbolLineAt f t i) e q
+  unfolding symbolLineAt
   symbol-put x y a n kind name d w s u v z p = rw (← d, ← w, ← s, ← u, ← v, ← z) p
 
   pub extern-put : (x a n : ℕ) (name : List ℕ) → a ≡ wordOf 4 t i 2 → n ≡ wordOf 4 t i 3 → name ≡ part f a n → x ≡ wordOf 4 t i 0
-      → Puts l 0 (externLine x name) e q → Puts l 0 (externAt f t i) e q
-  unfolding externAt
+      → Puts l 0 (externLine x name) e q → Puts l 0 (externLineAt f t i) e q
+  unfolding externLineAt
   extern-put x a n name d w s u p = rw (← d, ← w, ← s, ← u) p
 
 module _ (t : List ℕ) (i : ℕ) (l e : List ℕ) (q : ℕ) where
@@ -86,12 +87,12 @@ module _ (t : List ℕ) (i : ℕ) (l e : List ℕ) (q : ℕ) where
       → Puts l 0 (sectionLine (wordOf 8 t i 0) (wordOf 8 t i 1) (wordOf 8 t i 2) (wordOf 8 t i 3) (wordOf 8 t i 4) name) e q
   named-put a b c d p name u v w x y z = rw (← u, ← v, ← w, ← x, ← y) z
 
-  pub fix-put : (a b c : ℕ) → a ≡ wordOf 3 t i 0 → b ≡ wordOf 3 t i 1 → c ≡ wordOf 3 t i 2 → Puts l 0 (fixLine a b c) e q → Puts l 0 (fixAt t i) e q
-  unfolding fixAt
+  pub fix-put : (a b c : ℕ) → a ≡ wordOf 3 t i 0 → b ≡ wordOf 3 t i 1 → c ≡ wordOf 3 t i 2 → Puts l 0 (fixLine a b c) e q → Puts l 0 (fixLineAt t i) e q
+  unfolding fixLineAt
   fix-put a b c u v w z = rw (← u, ← v, ← w) z
 
-  pub skip-put : (a b c : ℕ) → a ≡ wordOf 3 t i 0 → b ≡ wordOf 3 t i 1 → c ≡ wordOf 3 t i 2 → Puts l 0 (skipLine a b c) e q → Puts l 0 (skipAt t i) e q
-  unfolding skipAt
+  pub skip-put : (a b c : ℕ) → a ≡ wordOf 3 t i 0 → b ≡ wordOf 3 t i 1 → c ≡ wordOf 3 t i 2 → Puts l 0 (skipLine a b c) e q → Puts l 0 (skipLineAt t i) e q
+  unfolding skipLineAt
   skip-put a b c u v w z = rw (← u, ← v, ← w) z
 
 -- ---- how many lines

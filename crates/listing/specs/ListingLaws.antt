@@ -11,12 +11,13 @@ use lib.Seq.{getD-append-add}
 use Rattle.util.specs.Pick.{pick, le-or-lt}
 use Rattle.util.specs.Prefix.{listTo, length-list, list-at}
 use Rattle.le.specs.Le.{part, IsBytes, get-below}
-use Rattle.kinds.specs.Symbol.{kindOf}
+use Rattle.kinds.specs.Symbol.{kindNumbered}
+use Rattle.names.specs.Bytes.{UNDEF}
 use Rattle.words.specs.Words.{WORD, wordOf}
 use Rattle.survey.specs.declared.answer.Counts.{Counts}
 use Rattle.lines.specs.Lines.{imageLine, skippedLine}
 use Rattle.lines.specs.LineLaws.{image-long, section-long, symbol-long, extern-long, fix-long, skip-long, skipped-long}
-use Rattle.listing.specs.Listing.{UNDEF, sectionTitle, sectionAt, symbolAt, externAt, fixAt, skipAt, fromSkips, fromFixups, fromExterns, fromSymbols, fromSections, listing, lineCount}
+use Rattle.listing.specs.Listing.{sectionTitle, sectionLineAt, symbolLineAt, externLineAt, fixLineAt, skipLineAt, fromSkips, fromFixups, fromExterns, fromSymbols, fromSections, listing, lineCount}
 
 pub lines-counted : (f : List ℕ) (base : ℕ) (c : Counts) (sections symbols externs fixups skips : List ℕ) → length (listing f base c sections symbols externs fixups skips) ≡ lineCount c
 unfolding lineCount
@@ -65,36 +66,36 @@ none-short m k = omega arith
 
 module _ (f : List ℕ) (base : ℕ) (c : Counts) (sections symbols externs fixups skips : List ℕ) (low : base < 2 ^ 64) (pages : c .pages < 2 ^ 64) (skipped : c .skips < 2 ^ 64) (passed : c .passed < 2 ^ 64)
     (s : IsBytes sections) (y : IsBytes symbols) (e : IsBytes externs) (x : IsBytes fixups) (z : IsBytes skips) where
-  section-short : (i : ℕ) → length (sectionAt f sections i) ≤ 125 + length f
-  unfolding sectionAt
+  section-short : (i : ℕ) → length (sectionLineAt f sections i) ≤ 125 + length f
+  unfolding sectionLineAt
   section-short i =
       let a = section-long (wordOf 8 sections i 0) (wordOf 8 sections i 1) (wordOf 8 sections i 2) (wordOf 8 sections i 3) (wordOf 8 sections i 4) (sectionTitle f sections i)
       (word-below 8 sections i 0 s) (word-below 8 sections i 1 s) (word-below 8 sections i 2 s) (word-below 8 sections i 3 s) in
       let b = title-long f sections i in
       omega arith
 
-  symbol-short : (i : ℕ) → length (symbolAt f symbols i) ≤ 125 + length f
-  unfolding symbolAt
+  symbol-short : (i : ℕ) → length (symbolLineAt f symbols i) ≤ 125 + length f
+  unfolding symbolLineAt
   symbol-short i =
-      let a = symbol-long (wordOf 6 symbols i 0) (kindOf (wordOf 6 symbols i 1)) (part f (wordOf 6 symbols i 2) (wordOf 6 symbols i 3)) (word-below 6 symbols i 0 y) in
+      let a = symbol-long (wordOf 6 symbols i 0) (kindNumbered (wordOf 6 symbols i 1)) (part f (wordOf 6 symbols i 2) (wordOf 6 symbols i 3)) (word-below 6 symbols i 0 y) in
       let b = part-long f (wordOf 6 symbols i 2) (wordOf 6 symbols i 3) in
       omega arith
 
-  extern-short : (i : ℕ) → length (externAt f externs i) ≤ 125 + length f
-  unfolding externAt
+  extern-short : (i : ℕ) → length (externLineAt f externs i) ≤ 125 + length f
+  unfolding externLineAt
   extern-short i =
       let a = extern-long (wordOf 4 externs i 0) (part f (wordOf 4 externs i 2) (wordOf 4 externs i 3)) (word-below 4 externs i 0 e) in
       let b = part-long f (wordOf 4 externs i 2) (wordOf 4 externs i 3) in
       omega arith
 
-  fix-short : (i : ℕ) → length (fixAt fixups i) ≤ 125 + length f
-  unfolding fixAt
+  fix-short : (i : ℕ) → length (fixLineAt fixups i) ≤ 125 + length f
+  unfolding fixLineAt
   fix-short i =
       let a = fix-long (wordOf 3 fixups i 0) (wordOf 3 fixups i 1) (wordOf 3 fixups i 2) (word-below 3 fixups i 0 x) (word-below 3 fixups i 1 x) (word-below 3 fixups i 2 x) in
       omega arith
 
-  skip-short : (i : ℕ) → length (skipAt skips i) ≤ 125 + length f
-  unfolding skipAt
+  skip-short : (i : ℕ) → length (skipLineAt skips i) ≤ 125 + length f
+  unfolding skipLineAt
   skip-short i =
       let a = skip-long (wordOf 3 skips i 0) (wordOf 3 skips i 1) (wordOf 3 skips i 2) (word-below 3 skips i 0 z) (word-below 3 skips i 1 z) (word-below 3 skips i 2 z) in
       omega arith
@@ -105,10 +106,10 @@ module _ (f : List ℕ) (base : ℕ) (c : Counts) (sections symbols externs fixu
       let a : length (imageLine base (c .pages)) ≤ m = let q = image-long base (c .pages) low pages in omega arith in
       let b : length (skippedLine (c .skips) (c .passed)) ≤ m = let q = skipped-long (c .skips) (c .passed) skipped passed in omega arith in
       one-short m (imageLine base (c .pages)) (fromSections f c sections symbols externs fixups skips) a
-      (rows-short m (sectionAt f sections) (c .sections) (fromSymbols f c symbols externs fixups skips) section-short
-      (rows-short m (symbolAt f symbols) (c .symbols) (fromExterns f c externs fixups skips) symbol-short
-      (rows-short m (externAt f externs) (c .externs) (fromFixups c fixups skips) extern-short
-      (rows-short m (fixAt fixups) (c .fixups) (fromSkips c skips) fix-short
-      (rows-short m (skipAt skips) (c .skips) (skippedLine (c .skips) (c .passed) ∷ []) skip-short
+      (rows-short m (sectionLineAt f sections) (c .sections) (fromSymbols f c symbols externs fixups skips) section-short
+      (rows-short m (symbolLineAt f symbols) (c .symbols) (fromExterns f c externs fixups skips) symbol-short
+      (rows-short m (externLineAt f externs) (c .externs) (fromFixups c fixups skips) extern-short
+      (rows-short m (fixLineAt fixups) (c .fixups) (fromSkips c skips) fix-short
+      (rows-short m (skipLineAt skips) (c .skips) (skippedLine (c .skips) (c .passed) ∷ []) skip-short
       (one-short m (skippedLine (c .skips) (c .passed)) [] b (none-short m)))))))
       k

@@ -6,16 +6,16 @@ ghost use mathlib.Core.Path.{_≡_};
 ghost use mathlib.Core.List.{[]};
 ghost use Prim.Native.Nat.{_+_, _*_, _%_, _^_, _<_};
 ghost use lib.ListN.{getD};
-ghost use Rattle.kinds.specs.Symbol.{kindOf};
+ghost use Rattle.kinds.specs.Symbol.{kindNumbered};
 ghost use Rattle.words.specs.Words.{WORD, wordOf};
 ghost use Rattle.text.specs.Text.{Puts};
 ghost use Rattle.lines.specs.Lines.{sectionLine};
 ghost use Rattle.listing.specs.Listing.{
-  sectionAt,
-  symbolAt,
-  externAt,
-  fixAt,
-  skipAt,
+  sectionLineAt,
+  symbolLineAt,
+  externLineAt,
+  fixLineAt,
+  skipLineAt,
   fromSkips,
   fromFixups,
   fromExterns,
@@ -38,7 +38,7 @@ fn word(table: &[u8], width: u8, i: u32, w: u8) -> u64
 
 // The kind that a number of the tables has.
 fn kind_of(n: u64) -> SymbolKind
-    ensures { λ r. ⌜ r ≡ kindOf n ⌝ }
+    ensures { λ r. ⌜ r ≡ kindNumbered n ⌝ }
 {
     let text = n == 1;
     if text {
@@ -83,7 +83,7 @@ fn section_named(t: &[u8], i: u32, name: &[u8], out: &mut [u8]) -> usize
 
 // UNDEF has no number, and no name in the file.
 fn section_at(f: &[u8], t: &[u8], i: u32, out: &mut [u8]) -> usize
-    ensures { λ r. ⌜ Puts (now (out .entry)) 0 (sectionAt (now (f .entry)) (now (t .entry)) i) (now (out .exit)) r ⌝ }
+    ensures { λ r. ⌜ Puts (now (out .entry)) 0 (sectionLineAt (now (f .entry)) (now (t .entry)) i) (now (out .exit)) r ⌝ }
 {
     if word(t, 8, i, 7) == 0 {
         section_named(t, i, b"UNDEF", out)
@@ -94,21 +94,21 @@ fn section_at(f: &[u8], t: &[u8], i: u32, out: &mut [u8]) -> usize
 }
 
 fn symbol_at(f: &[u8], t: &[u8], i: u32, out: &mut [u8]) -> usize
-    ensures { λ r. ⌜ Puts (now (out .entry)) 0 (symbolAt (now (f .entry)) (now (t .entry)) i) (now (out .exit)) r ⌝ }
+    ensures { λ r. ⌜ Puts (now (out .entry)) 0 (symbolLineAt (now (f .entry)) (now (t .entry)) i) (now (out .exit)) r ⌝ }
 {
     let name = le::part(f, word(t, 6, i, 2) as usize, word(t, 6, i, 3) as usize);
     lines::symbol_line(out, VA(word(t, 6, i, 0)), kind_of(word(t, 6, i, 1)), name)
 }
 
 fn extern_at(f: &[u8], t: &[u8], i: u32, out: &mut [u8]) -> usize
-    ensures { λ r. ⌜ Puts (now (out .entry)) 0 (externAt (now (f .entry)) (now (t .entry)) i) (now (out .exit)) r ⌝ }
+    ensures { λ r. ⌜ Puts (now (out .entry)) 0 (externLineAt (now (f .entry)) (now (t .entry)) i) (now (out .exit)) r ⌝ }
 {
     let name = le::part(f, word(t, 4, i, 2) as usize, word(t, 4, i, 3) as usize);
     lines::extern_line(out, VA(word(t, 4, i, 0)), name)
 }
 
 fn fix_at(t: &[u8], i: u32, out: &mut [u8]) -> usize
-    ensures { λ r. ⌜ Puts (now (out .entry)) 0 (fixAt (now (t .entry)) i) (now (out .exit)) r ⌝ }
+    ensures { λ r. ⌜ Puts (now (out .entry)) 0 (fixLineAt (now (t .entry)) i) (now (out .exit)) r ⌝ }
 {
     lines::fix_line(
         out,
@@ -119,7 +119,7 @@ fn fix_at(t: &[u8], i: u32, out: &mut [u8]) -> usize
 }
 
 fn skip_at(t: &[u8], i: u32, out: &mut [u8]) -> usize
-    ensures { λ r. ⌜ Puts (now (out .entry)) 0 (skipAt (now (t .entry)) i) (now (out .exit)) r ⌝ }
+    ensures { λ r. ⌜ Puts (now (out .entry)) 0 (skipLineAt (now (t .entry)) i) (now (out .exit)) r ⌝ }
 {
     lines::skip_line(out, word(t, 3, i, 0), word(t, 3, i, 1), word(t, 3, i, 2))
 }

@@ -1,10 +1,11 @@
 -- The pass over all relocations. Assumes nothing.
 use mathlib.Core.Path.{_≡_, refl, ap, _∙_}
 use mathlib.Core.List.{List, [], _∷_, _++_}
-use Prim.Native.Nat.{ℕ, zero, suc, _+_, _*_, _%_, _^_, _≤_, _<_}
+use Prim.Native.Nat.{ℕ, _+_, _*_, _%_, _^_, _≤_, _<_}
 use native.Mathlib.Omega.{arith}
 use native.Mathlib.Numerals.{add-one}
 use lib.ListN.{length, getD, length-append}
+use Rattle.util.specs.Fold.{foldRecords, foldSections, records-same}
 use Rattle.limits.specs.Limits.{FIXUP-BYTES, SKIP-BYTES}
 use Rattle.le.specs.Le.{splice, splice-next, splice-long}
 use Rattle.arch.specs.declared.Arch.{Arch}
@@ -22,7 +23,8 @@ use Rattle.fixups.specs.declared.Outcome.the-variants.{Passed, Skipped, Refused
 use Rattle.targets.specs.Target.{skipNumber}
 use Rattle.fixups.specs.Outcome.{byHome, outcome, readOutcome, read-outcome}
 use Rattle.fixups.specs.Value.{valueOf}
-use Rattle.fixups.specs.Lists.{overRecords, overSections}
+use Rattle.fixups.specs.Lists.{appendStep, overRecords, overSections}
+use Rattle.fixups.specs.ListLaws.{section-behind}
 use Rattle.lists.specs.declared.Rows.{Rows}
 use Rattle.words.specs.Words.{wordBytes, length-words, word-low}
 use Rattle.lists.specs.Relocations.{fixWords, skipWords, fixBytes, skipBytes, fixBytesAt, skipBytesAt, Written, Near, Step, BothWritten}
@@ -111,12 +113,12 @@ step-on p q r F S F′ S′ b b′ b″ c c′ c″ n m x y =
 -- ---- the records of a section
 module _ (base : ℕ) (o : ℕ → ℕ → Outcome) (i : ℕ) (p : Rows) (b c : List ℕ) where
   pub row-none : Step p (overRecords (fixBytesAt base o) i 0) (overRecords (skipBytesAt o) i 0) b b c c p 0
-  unfolding overRecords
+  unfolding foldRecords
   row-none = record { written = written-none p b c; near = record { fixes = omega arith; skips = omega arith } }
 
   pub row-again : (k : ℕ) (q r : Rows) (x : Outcome) (b′ b″ c′ c″ : List ℕ) → Step p (overRecords (fixBytesAt base o) i k) (overRecords (skipBytesAt o) i k) b b′ c c′ q k → x ≡ o i k
       → Step q (fixBytes base x) (skipBytes i k x) b′ b″ c′ c″ r 1 → Step p (overRecords (fixBytesAt base o) i (k + 1)) (overRecords (skipBytesAt o) i (k + 1)) b b″ c c″ r (k + 1)
-  unfolding overRecords fixBytesAt skipBytesAt
+  unfolding foldRecords appendStep fixBytesAt skipBytesAt
   row-again k q r x b′ b″ c′ c″ s e t =
       let z = step-on p q r (overRecords (fixBytesAt base o) i k) (overRecords (skipBytesAt o) i k) (fixBytes base x) (skipBytes i k x) b b′ b″ c c′ c″ k 1 s t in
       rw (add-one k) (rw (add-one k, e) at z)
@@ -133,19 +135,14 @@ module _ (base : ℕ) (o : ℕ → ℕ → Outcome) (i : ℕ) (p : Rows) (b c : 
   row-room k m F S b′ c′ q s x y a d e = (omega (arith, s .near .fixes), omega (arith, s .near .skips))
 
 -- ---- a section by what is found once for it
-over-same : {A : Type 0} (out other : ℕ → ℕ → List A) (i : ℕ) → ((k : ℕ) → out i k ≡ other i k) → (n : ℕ) → overRecords out i n ≡ overRecords other i n
-unfolding overRecords
-over-same out other i e zero = refl
-over-same out other i e (suc n) = rw (over-same out other i e n, e n)
-
 module _ (base : ℕ) (o x : ℕ → ℕ → Outcome) (i : ℕ) (e : (k : ℕ) → o i k ≡ x i k) (n : ℕ) where
   fixes-same : overRecords (fixBytesAt base o) i n ≡ overRecords (fixBytesAt base x) i n
-  unfolding fixBytesAt
-  fixes-same = over-same (fixBytesAt base o) (fixBytesAt base x) i (λ k. ap (fixBytes base) (e k)) n
+  unfolding appendStep fixBytesAt
+  fixes-same = records-same (appendStep (fixBytesAt base o)) (appendStep (fixBytesAt base x)) i (λ k b. ap (λ (y : Outcome). b ++ fixBytes base y) (e k)) [] n
 
   skips-same : overRecords (skipBytesAt o) i n ≡ overRecords (skipBytesAt x) i n
-  unfolding skipBytesAt
-  skips-same = over-same (skipBytesAt o) (skipBytesAt x) i (λ k. ap (skipBytes i k) (e k)) n
+  unfolding appendStep skipBytesAt
+  skips-same = records-same (appendStep (skipBytesAt o)) (appendStep (skipBytesAt x)) i (λ k b. ap (λ (y : Outcome). b ++ skipBytes i k y) (e k)) [] n
 
 pub read-again : (a : Arch) (f : List ℕ) (target : ℕ → Target) (rs : Records) (home : Offset) (base i : ℕ) (p : Rows) (b c : List ℕ) (k : ℕ) (q r : Rows) (x : Outcome)
     (b′ b″ c′ c″ : List ℕ)
@@ -176,18 +173,18 @@ none = record { fixups = 0; skips = 0 }
 
 module _ (base : ℕ) (o : ℕ → ℕ → Outcome) (count : ℕ → ℕ) (b c : List ℕ) where
   pub rows-none : Step none (overSections (fixBytesAt base o) count 0) (overSections (skipBytesAt o) count 0) b b c c none (2 ^ 32 * 0)
-  unfolding overSections
+  unfolding foldSections
   rows-none = record { written = written-none none b c; near = record { fixes = omega arith; skips = omega arith } }
 
   pub rows-again : (i : ℕ) (q r : Rows) (b′ b″ c′ c″ : List ℕ) → Step none (overSections (fixBytesAt base o) count i) (overSections (skipBytesAt o) count i) b b′ c c′ q (2 ^ 32 * i)
       → Step q (overRecords (fixBytesAt base o) i (count i)) (overRecords (skipBytesAt o) i (count i)) b′ b″ c′ c″ r (2 ^ 32)
       → Step none (overSections (fixBytesAt base o) count (i + 1)) (overSections (skipBytesAt o) count (i + 1)) b b″ c c″ r (2 ^ 32 * (i + 1))
-  unfolding overSections
   rows-again i q r b′ b″ c′ c″ s t =
       let z =
       step-on none q r (overSections (fixBytesAt base o) count i) (overSections (skipBytesAt o) count i) (overRecords (fixBytesAt base o) i (count i)) (overRecords (skipBytesAt o) i (count i)) b b′ b″ c c′ c″
       (2 ^ 32 * i) (2 ^ 32) s t in
-      rw (add-one i) (record { written = z .written; near = record { fixes = omega (arith, z .near .fixes); skips = omega (arith, z .near .skips) } })
+      rw (add-one i, section-behind (fixBytesAt base o) count i, section-behind (skipBytesAt o) count i)
+      (record { written = z .written; near = record { fixes = omega (arith, z .near .fixes); skips = omega (arith, z .near .skips) } })
 
   pub rows-end : (i n m : ℕ) (q : Rows) (b′ c′ : List ℕ) → Step none (overSections (fixBytesAt base o) count i) (overSections (skipBytesAt o) count i) b b′ c c′ q (2 ^ 32 * i) → i ≤ n → n ≤ i → n ≡ m
       → BothWritten (overSections (fixBytesAt base o) count m) (overSections (skipBytesAt o) count m) b b′ c c′

@@ -1,10 +1,11 @@
 -- Each of the two tables, read back word by word, gives the list of its definition. For every list of outcomes and every buffer that the table fits.
 use mathlib.Core.Path.{_≡_, refl, sym, ap, _∙_}
 use mathlib.Core.List.{List, [], _∷_, append-nil}
-use Prim.Native.Nat.{ℕ, zero, suc, _+_, _*_, _%_, _^_, _≤_, _<_}
+use Prim.Native.Nat.{ℕ, _+_, _*_, _%_, _^_, _≤_, _<_}
 use native.Mathlib.Omega.{arith}
 use native.Mathlib.Nat.{add-zero, mod-mod}
 use lib.ListN.{length, getD}
+use Rattle.util.specs.Fold.{sections-both}
 use Rattle.limits.specs.Limits.{FIXUP-BYTES, SKIP-BYTES}
 use Rattle.le.specs.Le.{get, splice}
 use Rattle.targets.specs.declared.Skip.{Skip}
@@ -16,23 +17,19 @@ use Rattle.targets.specs.Target.{skipNumber}
 use Rattle.fixups.specs.Value.{valueOf}
 use Rattle.fixups.specs.Tally.{isFixup, isSkipped, howMany}
 use Rattle.fixups.specs.TallyLaws.{fixups-counted, skips-counted}
-use Rattle.fixups.specs.Lists.{overRecords, overSections, fixesOf, fixAtRecord, fixList, SkipAt, skipsOf, skipAtRecord, skipList}
+use Rattle.fixups.specs.Lists.{appendStep, overSections, fixesOf, fixAtRecord, fixList, SkipAt, skipsOf, skipAtRecord, skipList}
 use Rattle.words.specs.Words.{wordBytes, length-words}
 use Rattle.words.specs.Rows.{rowWords, rows-join, length-rows, row-back}
 use Rattle.lists.specs.Relocations.{fixWords, skipWords, fixBytes, skipBytes, fixBytesAt, skipBytesAt, fixTable, skipTable}
 
 -- ---- what each relocation gives, as bytes, are the rows of what it gives as records
-module _ {A : Type 0} (words : A → List ℕ) (out : ℕ → ℕ → List A) (bytes : ℕ → ℕ → List ℕ)
-    (each : (i k : ℕ) → bytes i k ≡ wordBytes (rowWords words (out i k))) where
-  records-rows : (i k : ℕ) → overRecords bytes i k ≡ wordBytes (rowWords words (overRecords out i k))
-  unfolding overRecords rowWords wordBytes
-  records-rows i zero = refl
-  records-rows i (suc k) = rw (records-rows i k, each i k) (rows-join words (overRecords out i k) (out i k))
-
-  sections-rows : (count : ℕ → ℕ) (n : ℕ) → overSections bytes count n ≡ wordBytes (rowWords words (overSections out count n))
-  unfolding overSections rowWords wordBytes
-  sections-rows count zero = refl
-  sections-rows count (suc n) = rw (sections-rows count n, records-rows n (count n)) (rows-join words (overSections out count n) (overRecords out n (count n)))
+sections-rows : {A : Type 0} (words : A → List ℕ) (out : ℕ → ℕ → List A) (bytes : ℕ → ℕ → List ℕ)
+    → ((i k : ℕ) → bytes i k ≡ wordBytes (rowWords words (out i k))) → (count : ℕ → ℕ) (n : ℕ)
+    → overSections bytes count n ≡ wordBytes (rowWords words (overSections out count n))
+unfolding appendStep rowWords wordBytes
+sections-rows words out bytes each count n =
+    sections-both (appendStep bytes) (appendStep out) (λ b xs. b ≡ wordBytes (rowWords words xs)) count [] [] n
+    (λ i k b xs l h e. rw (e, each i k) (rows-join words xs (out i k))) refl
 
 -- ---- fixups
 abbrev pub fixRows : ℕ → List Fix → List ℕ

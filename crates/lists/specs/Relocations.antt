@@ -23,30 +23,33 @@ fixWords base x = (base + x .place .0) ∷ x .bits ∷ valueOf base x ∷ []
 unfoldable pub skipWords : ℕ → ℕ → Skip → List ℕ
 skipWords i k s = (i + 1) ∷ k ∷ skipNumber s ∷ []
 
--- what an outcome adds to each of the two
+-- what an outcome adds to the table of fixups
 abbrev pub fixBytes : ℕ → Outcome → List ℕ
 fixBytes base Passed = []
 fixBytes base (Skipped s) = []
 fixBytes base Refused = []
 fixBytes base (Fixup x) = wordBytes (fixWords base x)
 
+-- what an outcome of record k of section i adds to the table of skips
 abbrev pub skipBytes : ℕ → ℕ → Outcome → List ℕ
 skipBytes i k Passed = []
 skipBytes i k (Skipped s) = wordBytes (skipWords i k s)
 skipBytes i k Refused = []
 skipBytes i k (Fixup x) = []
 
--- of record k of section i
+-- by what becomes of record k of section i: to the fixups
 unfoldable pub fixBytesAt : ℕ → (ℕ → ℕ → Outcome) → ℕ → ℕ → List ℕ
 fixBytesAt base o i k = fixBytes base (o i k)
 
+-- to the skips
 unfoldable pub skipBytesAt : (ℕ → ℕ → Outcome) → ℕ → ℕ → List ℕ
 skipBytesAt o i k = skipBytes i k (o i k)
 
--- the tables of the first n sections' relocations
+-- the fixups of the first n sections
 abbrev pub fixTable : ℕ → (ℕ → ℕ → Outcome) → (ℕ → ℕ) → ℕ → List ℕ
 fixTable base o count n = overSections (fixBytesAt base o) count n
 
+-- their skips
 abbrev pub skipTable : (ℕ → ℕ → Outcome) → (ℕ → ℕ) → ℕ → List ℕ
 skipTable o count n = overSections (skipBytesAt o) count n
 
@@ -62,6 +65,7 @@ pub record Near (p q : Rows) (n : ℕ) : Type 0 where
   pub fixes : q .fixups ≤ p .fixups + n
   pub skips : q .skips ≤ p .skips + n
 
+-- both, where n records were gone through
 pub record Step (p : Rows) (F S b b′ c c′ : List ℕ) (q : Rows) (n : ℕ) : Type 0 where
   pub written : Written p F S b b′ c c′ q
   pub near : Near p q n

@@ -4,16 +4,18 @@ use arch::VA;
 use fixups::Fix;
 use fixups::Outcome;
 use object::Header;
+use object::Records;
 use targets::Skip;
 ghost use mathlib.Core.Path.{_≡_};
 ghost use Prim.Native.Nat.{_*_, _^_, _<_, _≤_};
 ghost use Rattle.object.specs.Section.{relocationCount};
+ghost use Rattle.object.specs.Relocation.{relocationIn, recordAt};
 ghost use Rattle.le.specs.Le.{splice};
 ghost use Rattle.limits.specs.Limits.{FIXUP-BYTES, SKIP-BYTES};
-ghost use Rattle.homes.specs.Home.{homeIn};
+ghost use Rattle.homes.specs.Home.{homeIn, wordHome};
 ghost use Rattle.targets.specs.Target.{skipNumber};
 ghost use Rattle.targets.specs.Table.{targetIn};
-ghost use Rattle.fixups.specs.Outcome.{outcome};
+ghost use Rattle.fixups.specs.Outcome.{byHome, outcome};
 ghost use Rattle.fixups.specs.Lists.{overRecords};
 ghost use Rattle.words.specs.Words.{wordBytes};
 ghost use Rattle.lists.specs.Relocations.{
@@ -98,6 +100,26 @@ fn put_outcome(
     }
 }
 
+// What becomes of relocation k of a section: `records` says where its records are, `word` is what is kept of its home; `homes`, `starts` and `codes` have what is
+// kept of the sections and the symbols. Each of the two passes over the relocations (the other is in `fixups`) has its own, to be compiled into its loop.
+fn outcome_of(
+    arch: Arch,
+    f: &[u8],
+    records: Records,
+    word: u32,
+    homes: &[u32],
+    starts: &[u32],
+    undef: u32,
+    codes: &[u16],
+    k: u32,
+) -> Outcome
+    ensures { λ r. ⌜ r ≡ byHome arch (targetIn (now (homes .entry)) (now (starts .entry)) undef (now (codes .entry))) (wordHome word) (relocationIn (now (f .entry)) (recordAt records k)) ⌝ }
+{
+    let r = object::read_relocation(f, records, k);
+    let target = targets::target_in(homes, starts, undef, codes, r.symbol);
+    fixups::outcome_at(word, r.address, kinds::type_of(arch, r.typ), target)
+}
+
 // The records of section i.
 fn write_section(
     arch: Arch,
@@ -126,7 +148,7 @@ fn write_section(
     let mut q = p;
     let mut k: u32 = 0;
     while k < m {
-        let o = fixups::outcome_of(arch, f, records, word, homes, starts, undef, codes, k);
+        let o = outcome_of(arch, f, records, word, homes, starts, undef, codes, k);
         q = put_outcome(base, i, k, o, q, fixups, skips);
         k += 1;
     }

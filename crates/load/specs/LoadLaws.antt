@@ -1,13 +1,13 @@
 -- What an accepted load says and leaves: the file is accepted, the base allowed, there was room; each buffer's counted part is its table, and what lies behind it is as it was.
 use mathlib.Core.Path.{_≡_, refl, sym, ap, _∙_}
-use mathlib.Core.Bool.{true, false, _&&_}
+use mathlib.Core.Bool.{true, false}
 use mathlib.Core.List.{List, [], _∷_, _++_}
 use Prim.Native.Nat.{ℕ, zero, suc, _-_, _*_, _≤_}
 use native.Mathlib.Omega.{arith}
 use lib.Dec.{eqb, leb}
 use lib.ListN.{length, getD}
 use borrow.Author.Tests.{leb-true, ne-eqb}
-use Rattle.util.specs.Pick.{pick, and-left, and-right}
+use Rattle.util.specs.Pick.{pick}
 use Rattle.arch.specs.Page.{PAGE-SIZE}
 use Rattle.le.specs.Le.{splice, part, part-splice, splice-above}
 use Rattle.object.specs.declared.Header.{Header}
@@ -36,9 +36,10 @@ use Rattle.marks.specs.Marks.{WORD-BYTES, wordsFor, markBytes}
 use Rattle.marks.specs.PutLaws.{length-marks}
 use Rattle.image.specs.Laid.{laidImage}
 use Rattle.image.specs.LaidLaws.{laid-past}
-use Rattle.load.specs.declared.Lengths.{Lengths}
 use Rattle.checks.specs.Checks.{baseOk}
-use Rattle.load.specs.Load.{Storage, lengthsOf, layoutRoom, listsRoom, roomOk, storedBy, stored, loadChecks, loadAnswer, Loads}
+use Rattle.plan.specs.PlanLaws.{Rooms, rooms}
+use Rattle.storage.specs.Storage.{Storage, storedBy, stored}
+use Rattle.load.specs.Load.{lengthsOf, roomOk, loadChecks, loadAnswer, Loads}
 
 -- ---- an answer tells its code
 pub load-says-refused : (code : ℕ) (c : Counts) → (code ≡ 0 → ⊥) → Refused code ≡ loadAnswer code c
@@ -115,6 +116,7 @@ module _ (f : List ℕ) (base : ℕ) (s s′ : Storage) (c : Counts) (loads : Lo
       records-rest f h (externChecks (length (externs f h)) ++ targetChecks (tally f h)) in-order ∙ rw (few-names, none-refused, none-outside) in
       rw z (ap Accepted (told .1))
 
+  -- an accepted load has passed every check, and leaves what is to be stored
   pub load-accepts : LoadAccepts f base s s′ c
   unfolding pick
   load-accepts =
@@ -142,34 +144,6 @@ keeps table size before after e r q =
       room = r;
       counted = rw (q, ← e) (part-splice before 0 table (omega arith));
       behind = λ k l. rw q (splice-above before 0 table k (omega arith));
-    }
-
--- ---- there was room for each
-pub record Rooms (c : Counts) (l : Lengths) : Type 0 where
-  pub image : PAGE-SIZE * c .pages ≤ l .image
-  pub marks : WORD-BYTES * wordsFor (c .pages) ≤ l .marks
-  pub sections : SECTION-BYTES * c .sections ≤ l .sections
-  pub symbols : SYMBOL-BYTES * c .symbols ≤ l .symbols
-  pub externs : EXTERN-BYTES * c .externs ≤ l .externs
-  pub fixups : FIXUP-BYTES * c .fixups ≤ l .fixups
-  pub skips : SKIP-BYTES * c .skips ≤ l .skips
-
-pub rooms : (c : Counts) (l : Lengths) → layoutRoom c l && listsRoom c l ≡ true → Rooms c l
-unfolding layoutRoom listsRoom
-rooms c l e =
-    let a = and-left (layoutRoom c l) (listsRoom c l) e in
-    let b = and-right (layoutRoom c l) (listsRoom c l) e in
-    let a₂ = and-right (leb (PAGE-SIZE * c .pages) (l .image)) _ a in
-    let b₂ = and-right (leb (SYMBOL-BYTES * c .symbols) (l .symbols)) _ b in
-    let b₃ = and-right (leb (EXTERN-BYTES * c .externs) (l .externs)) _ b₂ in
-    record {
-      image = leb-true _ _ (and-left (leb (PAGE-SIZE * c .pages) (l .image)) _ a);
-      marks = leb-true _ _ (and-left (leb (WORD-BYTES * wordsFor (c .pages)) (l .marks)) _ a₂);
-      sections = leb-true _ _ (and-right (leb (WORD-BYTES * wordsFor (c .pages)) (l .marks)) _ a₂);
-      symbols = leb-true _ _ (and-left (leb (SYMBOL-BYTES * c .symbols) (l .symbols)) _ b);
-      externs = leb-true _ _ (and-left (leb (EXTERN-BYTES * c .externs) (l .externs)) _ b₂);
-      fixups = leb-true _ _ (and-left (leb (FIXUP-BYTES * c .fixups) (l .fixups)) _ b₃);
-      skips = leb-true _ _ (and-right (leb (FIXUP-BYTES * c .fixups) (l .fixups)) _ b₃);
     }
 
 -- ---- what each buffer holds
@@ -214,6 +188,7 @@ module _ (f : List ℕ) (base : ℕ) (s s′ : Storage) (c : Counts) (loads : Lo
   unfolding countsBy tallyOf
   skips-are = ap (λ (k : Counts). k .skips) (sym (accepts .counted))
 
+  -- so each buffer holds its table, and behind it what it held
   pub load-leaves : LoadLeaves f base s s′ c
   unfolding storedBy
   load-leaves =

@@ -9,10 +9,11 @@ use lib.Dec.{eqb}
 use Rattle.util.specs.Prefix.{allTo, sumTo}
 use Rattle.le.specs.Le.{get, le, splice}
 
--- how many pages a word marks, and how many bytes it has
+-- how many pages a word marks
 abbrev pub WORD-PAGES : ℕ
 WORD-PAGES = 64
 
+-- how many bytes it has
 abbrev pub WORD-BYTES : ℕ
 WORD-BYTES = 8
 

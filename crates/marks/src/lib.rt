@@ -5,9 +5,10 @@ ghost use lib.Count.{ones};
 ghost use Rattle.le.specs.Le.{le, splice};
 ghost use Rattle.marks.specs.Marks.{WORD-PAGES, WORD-BYTES, wordsFor, wordAt, marked, allMarked, pageCount, markWord, marksPut};
 
-// Pages that a word marks, and bytes that it has.
+// Pages that a word marks.
 pub const WORD_PAGES: u64 = 64;
 
+// Bytes that a word has.
 pub const WORD_BYTES: u64 = 8;
 
 // The words that the marks of n pages take; no sum here has a limit of 64 bits.

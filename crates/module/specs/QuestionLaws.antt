@@ -25,7 +25,7 @@ use Rattle.module.specs.Questions.{
   offsetIn,
   addressIn,
   numbered,
-  NONE,
+  NONE-HOLDS,
   NO-ADDRESS,
   fileOffset,
   virtualAddress,
@@ -34,7 +34,7 @@ use Rattle.module.specs.Questions.{
   sectionAt,
   fillTo,
   fillCount,
-  filled,
+  tableFilled,
   blank,
   nth,
 }
@@ -63,7 +63,7 @@ module _ {A : Type 0} (p : Section → Bool) (a : ℕ → Section → A) (z : A)
 
 -- an address that no section holds is refused by 19
 pub refused-outside : (t : List Section) (x : VA) → ((j : ℕ) → j < length t → holds x (nth t j) ≡ false) → (fileOffset t x ≡ Refusal NO-SECTION) × (sectionOf t x ≡ Refusal NO-SECTION)
-refused-outside t x n = (none-is (holds x) (offsetIn x) NONE t n, none-is (holds x) numbered NONE t n)
+refused-outside t x n = (none-is (holds x) (offsetIn x) NONE-HOLDS t n, none-is (holds x) numbered NONE-HOLDS t n)
 
 -- ---- there and back: section i is the first that holds the address, its file range reaches so far, and no earlier section has that byte of the file
 module _ (t : List Section) (x : VA) (i : ℕ) (l : i < length t) (h : holds x (nth t i) ≡ true) (first : (j : ℕ) → j < i → holds x (nth t j) ≡ false) where
@@ -74,7 +74,7 @@ module _ (t : List Section) (x : VA) (i : ℕ) (l : i < length t) (h : holds x (
   place = s .«file_start» + (x .0 - s .start .0)
 
   pub offset-of-address : place < 2 ^ 64 → fileOffset t x ≡ Value place
-  offset-of-address f = first-is (holds x) (offsetIn x) NONE t i l h first ∙ ap Value (mod-eq-of-lt f)
+  offset-of-address f = first-is (holds x) (offsetIn x) NONE-HOLDS t i l h first ∙ ap Value (mod-eq-of-lt f)
 
   pub address-of-offset : place < s .«file_end» → x .0 < 2 ^ 64 → ((j : ℕ) → j < i → fileHolds place (nth t j) ≡ false) → virtualAddress t place ≡ Found x
   address-of-offset raw f none =
@@ -130,8 +130,8 @@ module _ (table : List ℕ) (t : List Section) where
   filled-short h = omega arith
 
 module _ (table : List ℕ) (t : List Section) (r : ℕ) where
-  pub filled-record : r < length table / SECTION-BYTES → r < length t → nth (filled table t) r ≡ sectionAt table r
+  pub filled-record : r < length table / SECTION-BYTES → r < length t → nth (tableFilled table t) r ≡ sectionAt table r
   filled-record h l = fill-is table (min (length table / SECTION-BYTES) (length t)) t r (omega arith) l
 
-  pub filled-past : length table / SECTION-BYTES ≤ r → nth (filled table t) r ≡ nth t r
+  pub filled-past : length table / SECTION-BYTES ≤ r → nth (tableFilled table t) r ≡ nth t r
   filled-past h = fill-past table (min (length table / SECTION-BYTES) (length t)) t r (omega arith)

@@ -28,10 +28,11 @@ firstOf p a none (s ∷ t) i = pick (p s) (a i s) (firstOf p a none t (suc i))
 abbrev pub moved : ℕ → ℕ → ℕ → ℕ
 moved from to x = (to + (x - from)) % 2 ^ 64
 
--- what the section that a scan finds answers: as far into the file range as the address is into the range, and the other way
+-- what the section that a scan finds answers: as far into the file range as the address is into the range
 abbrev pub offsetIn : VA → ℕ → Section → Number
 offsetIn a i s = Value (moved (s .start .0) (s .«file_start») (a .0))
 
+-- the other way: as far into the range as the file offset is into the file range
 abbrev pub addressIn : ℕ → ℕ → Section → AddressAnswer
 addressIn o i s = Found (va (moved (s .«file_start») (s .start .0) o))
 
@@ -39,43 +40,49 @@ addressIn o i s = Found (va (moved (s .«file_start») (s .start .0) o))
 abbrev pub numbered : ℕ → Section → Number
 numbered i s = Value i
 
--- what a scan answers that finds none
-abbrev pub NONE : Number
-NONE = Refusal NO-SECTION
+-- what a scan answers that finds none: 19
+abbrev pub NONE-HOLDS : Number
+NONE-HOLDS = Refusal NO-SECTION
 
+-- the same, where the answer is an address
 abbrev pub NO-ADDRESS : AddressAnswer
 NO-ADDRESS = Refused NO-SECTION
 
 -- ---- the questions
--- the file offset of an address, and the address of a file offset
+-- the file offset of an address, past the raw data and in UNDEF too
 abbrev pub fileOffset : List Section → VA → Number
-fileOffset t a = firstOf (holds a) (offsetIn a) NONE t 0
+fileOffset t a = firstOf (holds a) (offsetIn a) NONE-HOLDS t 0
 
+-- the address of a file offset
 abbrev pub virtualAddress : List Section → ℕ → AddressAnswer
 virtualAddress t o = firstOf (fileHolds o) (addressIn o) NO-ADDRESS t 0
 
--- the number in the table of the section that holds an address, that has a place of the file, that has a name
+-- the number in the table of the first section that holds an address
 abbrev pub sectionOf : List Section → VA → Number
-sectionOf t a = firstOf (holds a) numbered NONE t 0
+sectionOf t a = firstOf (holds a) numbered NONE-HOLDS t 0
 
+-- of the first whose file range holds a file offset
 abbrev pub sectionOfOffset : List Section → ℕ → Number
-sectionOfOffset t o = firstOf (fileHolds o) numbered NONE t 0
+sectionOfOffset t o = firstOf (fileHolds o) numbered NONE-HOLDS t 0
 
--- where none has the name it is 20
+-- of the first that has a name; where none has it, 20
 abbrev pub sectionNamed : List Section → List ℕ → List ℕ → Number
 sectionNamed t file name = firstOf (sectionHasName file name) numbered (Refusal NO-ENTRY) t 0
 
--- whether some section grants what is asked of the address, or of the offset from the base
+-- some section grants what is asked of the address
 abbrev pub probeVa : List Section → Probe → Bool
 probeVa t q = firstOf (grants q) (λ i s. true) false t 0
 
+-- the same, of an offset from the base
 abbrev pub probeRva : List Section → OffsetProbe → Bool
 probeRva t q = firstOf (grantsOffset q) (λ i s. true) false t 0
 
--- ---- an address is in the image if a section's file range holds its file offset
+-- ---- an address in the image
+-- some section's file range holds that file offset
 abbrev pub isBacked : List Section → Number → Bool
 isBacked t n = firstOf (λ s. hasByte s n) (λ i s. true) false t 0
 
+-- it holds that of the address
 abbrev pub isInImage : List Section → VA → Bool
 isInImage t a = isBacked t (fileOffset t a)
 
@@ -106,13 +113,14 @@ fillTo table (suc n) t = set (fillTo table n t) n (sectionAt table n)
 abbrev pub fillCount : List ℕ → List Section → ℕ
 fillCount table t = min (length table / SECTION-BYTES) (length t)
 
-abbrev pub filled : List ℕ → List Section → List Section
-filled table t = fillTo table (fillCount table t) t
+-- t with all those from the table
+abbrev pub tableFilled : List ℕ → List Section → List Section
+tableFilled table t = fillTo table (fillCount table t) t
 
 -- the answer says how many, and the records are there
 pub record Fills (table : List ℕ) (t t′ : List Section) (r : ℕ) : Type 0 where
   pub says : r ≡ fillCount table t
-  pub leaves : t′ ≡ filled table t
+  pub leaves : t′ ≡ tableFilled table t
 
 -- what stands past the end of a table
 abbrev pub blank : Section

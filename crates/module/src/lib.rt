@@ -11,7 +11,7 @@ ghost use Rattle.module.specs.Questions.{
   offsetIn,
   addressIn,
   numbered,
-  NONE,
+  NONE-HOLDS,
   NO-ADDRESS,
   fileOffset,
   virtualAddress,
@@ -129,7 +129,7 @@ fn index(i: usize) -> Number
 
 // What a scan answers that finds none.
 fn no_section() -> Number
-    ensures { λ r. ⌜ r ≡ NONE ⌝ }
+    ensures { λ r. ⌜ r ≡ NONE-HOLDS ⌝ }
 {
     Number::Refusal(NO_SECTION)
 }

@@ -23,7 +23,7 @@ use Rattle.names.specs.declared.Name.the-variants.{Good, Bad}
 use Rattle.names.specs.Bytes.{run, goodSymbolName, goodSectionName, allVisible, allDigits, decimal, decimalTo, compareBytes, sameBytes}
 use Rattle.names.specs.declared.Digits.{Digits}
 use Rattle.names.specs.declared.Digits.the-variants as digits
-use Rattle.names.specs.Name.{longRun, symbolRun, SLASH, slashOffset, slashBy, slashRun, sectionRun, checked, nameBytes, leftFrom, longSpan, spanAt, symbolSpan, symbolText}
+use Rattle.names.specs.Name.{longRun, symbolRun, SLASH, slashOffset, slashBy, slashRun, sectionRun, checked, nameBytes, leftFrom, longSpan, spanAt, symbolSpan, symbolText, isGood}
 use Rattle.names.specs.NameLaws.{slash-is, text-run}
 
 left-suc : (i l : ℕ) → i < l → l - i ≡ suc (l - (i + 1))
@@ -260,6 +260,14 @@ module _ (f : List ℕ) (m : Name) where
   pub bytes-bad : m ≡ Bad → [] ≡ nameBytes f m
   unfolding nameBytes
   bytes-bad is = rw is
+
+-- whether it is good
+module _ (m : Name) where
+  pub name-good : (at n : ℕ) → m ≡ Good at n → true ≡ isGood m
+  name-good at n e = rw e
+
+  pub name-bad : m ≡ Bad → false ≡ isGood m
+  name-bad e = rw e
 
 -- ---- a name by its record: where the record starts, the run there, and what is made of it
 module _ (f : List ℕ) (h : Header) (x : Name) (a b : ℕ) where

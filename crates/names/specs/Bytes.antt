@@ -23,13 +23,15 @@ upToZero (x ∷ xs) = pick (eqb x 0) [] (x ∷ upToZero xs)
 abbrev pub visible : ℕ → Bool
 visible b = leb 0x21 b && leb b 0x7E
 
+-- each of them is such a byte
 abbrev pub allVisible : List ℕ → Bool
 allVisible s = allTo (λ k. visible (getD s k 0)) (length s)
 
--- the rule for each kind of name, on its bytes: a section's may be empty, a symbol's not
+-- the rule for a section's name, on its bytes: it may be empty
 unfoldable pub goodSectionName : List ℕ → Bool
 goodSectionName s = allVisible s
 
+-- for a symbol's: it may not
 unfoldable pub goodSymbolName : List ℕ → Bool
 goodSymbolName s = not (eqb (length s) 0) && allVisible s
 
@@ -41,11 +43,12 @@ isDigit b = leb 0x30 b && leb b 0x39
 abbrev pub allDigits : List ℕ → Bool
 allDigits s = allTo (λ k. isDigit (getD s k 0)) (length s)
 
--- the number that the first n bytes say, and all of them
+-- the number that the first n digits say
 unfoldable pub decimalTo : List ℕ → ℕ → ℕ
 decimalTo s zero = 0
 decimalTo s (suc n) = 10 * decimalTo s n + (getD s n 0 - 0x30)
 
+-- and that all of them do
 abbrev pub decimal : List ℕ → ℕ
 decimal s = decimalTo s (length s)
 

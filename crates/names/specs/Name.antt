@@ -1,9 +1,10 @@
 -- The names of sections and symbols: a part of the file's bytes, good or bad (01, "Records"; PE/COFF, "Section Table", "Symbol Name Representation", "COFF String Table").
-use mathlib.Core.Bool.{Bool, true, false, _&&_}
+use mathlib.Core.Bool.{Bool, _&&_}
 use mathlib.Core.List.{List, []}
 use Prim.Native.Nat.{ℕ, _+_, _-_}
 use lib.ListN.{getD}
 use lib.Dec.{ltb, leb, eqb}
+use Rattle.refusal.specs.Refusal.{NAME}
 use Rattle.util.specs.Pick.{pick}
 use Rattle.le.specs.Le.{get, part}
 use Rattle.object.specs.declared.Header.{Header}
@@ -36,41 +37,50 @@ longRun f h offset =
 unfoldable pub symbolRun : List ℕ → Header → ℕ → Name
 symbolRun f h at = pick (eqb (get 4 f at) 0) (longRun f h (get 4 f (at + 4))) (pick (eqb (getD f at 0) 0) Bad (shortRun f at))
 
--- a section's that begins with a slash: one to seven digits behind it are the offset; any other form is bad
+-- ---- a section's name that begins with a slash: one to seven digits behind it are the offset; any other form is bad
+-- the byte `/`
 abbrev pub SLASH : ℕ
 SLASH = 0x2F
 
+-- what stands behind the slash, up to the first zero or the field's end
 abbrev pub slashDigits : List ℕ → ℕ → List ℕ
 slashDigits f at = part f (at + 1) (run f at NAME-SIZE - 1)
 
+-- the offset that they say, where there is at least one and all are digits
 unfoldable pub slashOffset : List ℕ → ℕ → Digits
 slashOffset f at = pick (leb 2 (run f at NAME-SIZE) && allDigits (slashDigits f at)) (digits.Offset (decimal (slashDigits f at))) digits.Bad
 
+-- the name at that offset
 unfoldable pub slashBy : List ℕ → Header → Digits → Name
 slashBy f h (digits.Offset o) = longRun f h o
 slashBy f h digits.Bad = Bad
 
+-- the name that a field with a slash stands for
 unfoldable pub slashRun : List ℕ → Header → ℕ → Name
 slashRun f h at = pick (leb 2 (run f at NAME-SIZE) && allDigits (slashDigits f at)) (longRun f h (decimal (slashDigits f at))) Bad
 
+-- any section's: by the field's first byte
 unfoldable pub sectionRun : List ℕ → Header → ℕ → Name
 sectionRun f h at = pick (eqb (getD f at 0) SLASH) (slashRun f h at) (shortRun f at)
 
--- ---- and the rule on its bytes
+-- ---- and the rule on its bytes: a name that breaks it is bad
 unfoldable pub checked : (List ℕ → Bool) → List ℕ → Name → Name
 checked good f (Good at n) = pick (good (part f at n)) (Good at n) Bad
 checked good f Bad = Bad
 
+-- the name of a section whose name field stands at a place of the file
 abbrev pub sectionNameAt : List ℕ → Header → ℕ → Name
 sectionNameAt f h at = checked goodSectionName f (sectionRun f h at)
 
+-- the same of a symbol
 abbrev pub symbolNameAt : List ℕ → Header → ℕ → Name
 symbolNameAt f h at = checked goodSymbolName f (symbolRun f h at)
 
--- of section i and symbol j
+-- the name of section i
 abbrev pub sectionName : List ℕ → Header → ℕ → Name
 sectionName f h i = sectionNameAt f h (sectionHeaderAt h i)
 
+-- of symbol record j
 abbrev pub symbolName : List ℕ → Header → ℕ → Name
 symbolName f h j = symbolNameAt f h (symbolRecordAt h j)
 
@@ -78,10 +88,11 @@ symbolName f h j = symbolNameAt f h (symbolRecordAt h j)
 abbrev pub sectionText : List ℕ → Header → ℕ → List ℕ
 sectionText f h i = nameBytes f (sectionRun f h (sectionHeaderAt h i))
 
--- what a string table has from an offset of at least 4 on, and so a long name's span; below 4 it has none
+-- what a string table has from an offset of at least 4 on; below 4 it has none
 unfoldable pub leftFrom : ℕ → ℕ → ℕ
 leftFrom length offset = pick (leb LENGTH-SIZE offset) (length - offset) 0
 
+-- the bytes of the string table that a name at an offset may take
 unfoldable pub longSpan : List ℕ → Header → ℕ → Span
 longSpan f h offset = record { at = stringTable h + offset; most = leftFrom (stringLength f h) offset }
 
@@ -89,6 +100,7 @@ longSpan f h offset = record { at = stringTable h + offset; most = leftFrom (str
 unfoldable pub spanAt : List ℕ → Header → ℕ → Span
 spanAt f h at = pick (eqb (get 4 f at) 0) (longSpan f h (get 4 f (at + 4))) (record { at = at; most = NAME-SIZE })
 
+-- of symbol record j
 abbrev pub symbolSpan : List ℕ → Header → ℕ → Span
 symbolSpan f h j = spanAt f h (symbolRecordAt h j)
 
@@ -96,10 +108,21 @@ symbolSpan f h j = spanAt f h (symbolRecordAt h j)
 abbrev pub spanText : List ℕ → Span → List ℕ
 spanText f s = upToZero (part f (s .at) (s .most))
 
+-- the bytes of symbol j's name, which externs are ordered and found by
 abbrev pub symbolText : List ℕ → Header → ℕ → List ℕ
 symbolText f h j = spanText f (symbolSpan f h j)
 
--- 6 is not given for it
+-- ---- the refusal of each case (01, "Survey"), 0 where there is none
+-- of a name
+abbrev pub nameRefusal : Name → ℕ
+nameRefusal (Good at n) = 0
+nameRefusal Bad = NAME
+
+-- of the digits behind a slash, which is the name's (`slash-refused`)
+abbrev pub digitsRefusal : Digits → ℕ
+digitsRefusal (digits.Offset o) = 0
+digitsRefusal digits.Bad = NAME
+
+-- it is not refused
 abbrev pub isGood : Name → Bool
-isGood (Good at n) = true
-isGood Bad = false
+isGood name = eqb (nameRefusal name) 0

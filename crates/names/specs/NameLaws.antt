@@ -10,7 +10,7 @@ use lib.Dec.{ltb, leb, eqb}
 use lib.ListN.{length, getD, drop, drop-of-length-le, List·getD-eq-default}
 use lib.Seq.{drop-cons, take-nil}
 use native.Mathlib.Numerals.{add-one}
-use borrow.Author.Tests.{leb-true, ltb-true, eqb-true, eqb-false, not-true}
+use borrow.Author.Tests.{leb-true, ltb-true, eqb-true, eqb-false, eq-eqb, not-true}
 use Rattle.util.specs.Pick.{pick, yes-no, le-or-lt, and-left, and-right}
 use Rattle.util.specs.Prefix.{all-at}
 use Rattle.le.specs.Le.{get, part, IsBytes, length-part, part-none}
@@ -19,8 +19,9 @@ use Rattle.object.specs.Format.{NAME-SIZE, sectionHeaderAt, symbolRecordAt, str
 use Rattle.names.specs.declared.Name.{Name}
 use Rattle.names.specs.declared.Name.the-variants.{Good, Bad}
 use Rattle.names.specs.Bytes.{run, upToZero, visible, allVisible, goodSectionName, goodSymbolName, allDigits, decimal}
+use Rattle.names.specs.declared.Digits.{Digits}
 use Rattle.names.specs.declared.Digits.the-variants as digits
-use Rattle.names.specs.Name.{nameBytes, shortRun, longRun, symbolRun, slashRun, slashOffset, slashBy, slashDigits, sectionRun, checked, sectionNameAt, symbolNameAt, sectionName, symbolName, SLASH, leftFrom, longSpan, spanAt, spanText, symbolText}
+use Rattle.names.specs.Name.{nameBytes, shortRun, longRun, symbolRun, slashRun, slashOffset, slashBy, slashDigits, sectionRun, checked, sectionNameAt, symbolNameAt, sectionName, symbolName, SLASH, leftFrom, longSpan, spanAt, spanText, symbolText, nameRefusal, digitsRefusal}
 
 -- ---- where a run ends
 -- one more byte: a zero ends the run, any other is passed
@@ -269,6 +270,17 @@ slash-picked f h false o = refl
 pub slash-is : (f : List ℕ) (h : Header) (at : ℕ) → slashRun f h at ≡ slashBy f h (slashOffset f at)
 unfolding slashRun slashOffset
 slash-is f h at = slash-picked f h (leb 2 (run f at NAME-SIZE) && allDigits (slashDigits f at)) (decimal (slashDigits f at))
+
+-- where its digits are refused, so is the name, by their number
+module _ (f : List ℕ) (h : Header) (k : ℕ) where
+  by-digits : (d : Digits) → digitsRefusal d ≡ suc k → nameRefusal (checked goodSectionName f (slashBy f h d)) ≡ suc k
+  unfolding checked slashBy
+  by-digits (digits.Offset o) e = absurd (omega arith)
+  by-digits digits.Bad e = e
+
+  pub slash-refused : (at : ℕ) → getD f at 0 ≡ SLASH → digitsRefusal (slashOffset f at) ≡ suc k → nameRefusal (sectionNameAt f h at) ≡ suc k
+  unfolding sectionRun pick
+  slash-refused at s e = rw (eq-eqb (getD f at 0) SLASH s, slash-is f h at) (by-digits (slashOffset f at) e)
 
 -- ---- the bytes where a symbol's name stands
 -- the next byte: a zero ends the text, and so does the list's end, which reads as a zero

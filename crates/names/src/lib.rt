@@ -1,6 +1,6 @@
 // Names of sections and symbols, and their order. A name is handed back as that part of the file's bytes.
 mod place;
-mod text;
+mod spelling;
 
 pub use place::SLASH;
 pub use place::is_good;
@@ -11,12 +11,12 @@ pub use place::slash_offset;
 pub use place::symbol_name;
 pub use place::symbol_span;
 pub use place::symbol_text;
-pub use text::compare;
-pub use text::good_section_name;
-pub use text::good_symbol_name;
-pub use text::is_undef;
-pub use text::is_visible;
-pub use text::same;
+pub use spelling::compare;
+pub use spelling::good_section_name;
+pub use spelling::good_symbol_name;
+pub use spelling::is_undef;
+pub use spelling::is_visible;
+pub use spelling::same;
 
 // Where a good name starts in the file, and how long it is.
 pub enum Name {
@@ -36,6 +36,7 @@ pub enum Digits {
     Bad,
 }
 
+// How one name stands to another by their bytes: a prefix comes first.
 pub enum Order {
     Less,
     Equal,

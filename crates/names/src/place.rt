@@ -2,11 +2,11 @@
 use crate::Digits;
 use crate::Name;
 use crate::Span;
-use crate::text::all_digits;
-use crate::text::decimal;
-use crate::text::good_section_name;
-use crate::text::good_symbol_name;
-use crate::text::run;
+use crate::spelling::all_digits;
+use crate::spelling::decimal;
+use crate::spelling::good_section_name;
+use crate::spelling::good_symbol_name;
+use crate::spelling::run;
 use object::Header;
 ghost use mathlib.Core.Path.{_≡_};
 ghost use Prim.Native.Nat.{_<_, _^_};

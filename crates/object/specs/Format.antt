@@ -8,24 +8,27 @@ use Rattle.util.specs.Pick.{pick}
 use Rattle.le.specs.Le.{get}
 use Rattle.object.specs.declared.Header.{Header}
 
--- record sizes
+-- the file header's bytes
 abbrev pub HEADER-SIZE : ℕ
 HEADER-SIZE = 20
 
+-- the bytes of a section record
 abbrev pub SECTION-SIZE : ℕ
 SECTION-SIZE = 40
 
+-- the bytes of a relocation record
 abbrev pub RELOCATION-SIZE : ℕ
 RELOCATION-SIZE = 10
 
--- a symbol's is the same in every file
+-- the bytes of a symbol record, the same in every file
 abbrev pub symbolSize : Header → ℕ
 symbolSize h = 18
 
--- the bytes of a name field, and of the string table's own length, behind which strings stand
+-- the bytes of a name field, at the start of a section or symbol record
 abbrev pub NAME-SIZE : ℕ
 NAME-SIZE = 8
 
+-- the bytes of the string table's own length, behind which strings stand
 abbrev pub LENGTH-SIZE : ℕ
 LENGTH-SIZE = 4
 
@@ -42,9 +45,11 @@ headerOf f =
     }
 
 -- ---- where records start
+-- section record i, from 0
 abbrev pub sectionHeaderAt : Header → ℕ → ℕ
 sectionHeaderAt h i = h .«section_table» + SECTION-SIZE * i
 
+-- symbol record j, from 0; the numbering counts auxiliary records
 abbrev pub symbolRecordAt : Header → ℕ → ℕ
 symbolRecordAt h j = h .«symbol_table» + symbolSize h * j
 
@@ -58,27 +63,33 @@ stringLength f h = pick (eqb (h .«symbol_table») 0) 0 (get 4 f (stringTable h)
 
 -- ---- fields of section record i
 module _ (f : List ℕ) (h : Header) (i : ℕ) where
+  -- VirtualAddress: 0 in a loaded section (refusal 5)
   abbrev pub addressField : ℕ
   addressField = get 4 f (sectionHeaderAt h i + 12)
 
+  -- SizeOfRawData: of an uninitialised section too the bytes that it takes
   abbrev pub rawSize : ℕ
   rawSize = get 4 f (sectionHeaderAt h i + 16)
 
+  -- PointerToRawData: where its bytes start in the file
   abbrev pub rawPointer : ℕ
   rawPointer = get 4 f (sectionHeaderAt h i + 20)
 
+  -- PointerToRelocations: where its relocation records start in the file
   abbrev pub relocationPointer : ℕ
   relocationPointer = get 4 f (sectionHeaderAt h i + 24)
 
-  -- the count field, and the flags
+  -- NumberOfRelocations: the count, or with the overflow flag 65,535
   abbrev pub relocationField : ℕ
   relocationField = get 2 f (sectionHeaderAt h i + 32)
 
+  -- Characteristics: what `kinds: Flags` tells apart
   abbrev pub flags : ℕ
   flags = get 4 f (sectionHeaderAt h i + 36)
 
 -- ---- fields of symbol record j
 module _ (f : List ℕ) (h : Header) (j : ℕ) where
+  -- Value: of a symbol in a section its offset there
   abbrev pub symbolValue : ℕ
   symbolValue = get 4 f (symbolRecordAt h j + 8)
 
@@ -86,11 +97,14 @@ module _ (f : List ℕ) (h : Header) (j : ℕ) where
   abbrev pub sectionField : ℕ
   sectionField = get 2 f (symbolRecordAt h j + 12)
 
+  -- Type: bits 4 and 5 tell a function
   abbrev pub symbolType : ℕ
   symbolType = get 2 f (symbolRecordAt h j + 14)
 
+  -- StorageClass: kind, place and listed value go by it
   abbrev pub symbolClass : ℕ
   symbolClass = getD f (symbolRecordAt h j + 16) 0
 
+  -- NumberOfAuxSymbols: how many auxiliary records follow it
   abbrev pub auxiliaries : ℕ
   auxiliaries = getD f (symbolRecordAt h j + 17) 0

@@ -18,18 +18,23 @@ relocationIn f at = record { address = get 4 f at; symbol = get 4 f (at + 4); ty
 
 -- ---- record k of section i
 module _ (f : List ℕ) (h : Header) (i k : ℕ) where
+  -- where it starts in the file
   abbrev pub relocationAt : ℕ
   relocationAt = relocationStart f h i + RELOCATION-SIZE * k
 
+  -- its three fields
   abbrev pub relocation : Relocation
   relocation = relocationIn f relocationAt
 
+  -- VirtualAddress: how far into its section the place lies
   abbrev pub relocationAddress : ℕ
   relocationAddress = get 4 f relocationAt
 
+  -- SymbolTableIndex: the number of a symbol record, auxiliary ones counted
   abbrev pub relocationSymbol : ℕ
   relocationSymbol = get 4 f (relocationAt + 4)
 
+  -- Type: a number of the machine's own table
   abbrev pub relocationType : ℕ
   relocationType = get 2 f (relocationAt + 8)
 
@@ -47,6 +52,7 @@ module _ (f : List ℕ) (h : Header) (i : ℕ) where
   places true p k = omega arith
   places false p k = omega arith
 
+  -- the place by what is found once is that of record k
   pub record-place : (k : ℕ) → recordAt (recordsOf f h i) k ≡ relocationAt f h i k
   unfolding recordAt recordsOf relocationStart
   record-place k = places (extended f h i) (relocationPointer f h i) k

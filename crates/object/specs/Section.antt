@@ -16,17 +16,19 @@ OVERFLOW-COUNT = 65535
 
 -- ---- of section i
 module _ (f : List ℕ) (h : Header) (i : ℕ) where
-  -- it is loaded; it has no bytes in the file
+  -- neither removed nor discardable
   abbrev pub loaded : Bool
   loaded = loadedBy (flags f h i)
 
+  -- its raw size is room in the image, not bytes of the file
   abbrev pub uninitialized : Bool
   uninitialized = uninitializedBy (flags f h i)
 
-  -- its bytes in the file; an uninitialised section has the range 0 to 0
+  -- where its bytes start in the file, which homes are found by; 0 if it is uninitialised
   unfoldable pub fileStart : ℕ
   fileStart = pick uninitialized 0 (rawPointer f h i)
 
+  -- behind its last byte there; 0 if it is uninitialised
   unfoldable pub fileEnd : ℕ
   fileEnd = pick uninitialized 0 (rawPointer f h i + rawSize f h i)
 
@@ -47,9 +49,10 @@ module _ (f : List ℕ) (h : Header) (i : ℕ) where
   unfoldable pub relocationRecords : ℕ
   relocationRecords = pick extended (get 4 f (relocationPointer f h i)) (relocationField f h i)
 
-  -- how many of them are relocations, and where record 0 starts
+  -- how many of them are relocations
   unfoldable pub relocationCount : ℕ
   relocationCount = pick extended (relocationRecords - 1) relocationRecords
 
+  -- where its record 0 starts in the file
   unfoldable pub relocationStart : ℕ
   relocationStart = pick extended (relocationPointer f h i + RELOCATION-SIZE) (relocationPointer f h i)

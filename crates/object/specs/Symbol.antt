@@ -17,9 +17,11 @@ use Rattle.object.specs.declared.Symbol.{Symbol}
 use Rattle.object.specs.Format.{symbolValue, sectionField, symbolType, symbolClass, auxiliaries}
 
 -- ---- by the fields behind its name
+-- text, data, section, file, label or unknown
 abbrev pub kindOf : Symbol → SymbolKind
 kindOf s = kindBy (s .class) (s .«symbol_type») (s .value) (s .auxiliaries)
 
+-- in a section, undefined, common, absolute, none or unknown
 abbrev pub placeOf : Symbol → Place
 placeOf s = placeBy (toZ w16 (s .number)) (s .class) (s .value)
 
@@ -40,15 +42,19 @@ module _ (f : List ℕ) (h : Header) (j : ℕ) where
         auxiliaries = auxiliaries f h j;
       }
 
+  -- its section number with its sign: from 1, or 0, -1, -2
   abbrev pub sectionNumber : ℤ
   sectionNumber = toZ w16 (sectionField f h j)
 
+  -- what it is, by its class, type, value and number of auxiliary records
   abbrev pub kind : SymbolKind
   kind = kindBy (symbolClass f h j) (symbolType f h j) (symbolValue f h j) (auxiliaries f h j)
 
+  -- where it is, by its section number, class and value
   abbrev pub symbolPlace : Place
   symbolPlace = placeBy sectionNumber (symbolClass f h j) (symbolValue f h j)
 
+-- what the symbol list adds to its home's start: its value, or 0 by its class
 abbrev pub listedValue : List ℕ → Header → ℕ → ℕ
 listedValue f h j = listedBy (symbolClass f h j) (symbolValue f h j)
 
@@ -82,5 +88,6 @@ isOwn own j = eqb (getD own j 0) 1
 unfoldable pub okAt : (List ℕ → Header → ℕ → Bool) → List ℕ → Header → ℕ → Bool
 okAt ok f h j = not (primary f h j) || ok f h j
 
+-- every symbol of the file passes the test
 abbrev pub allSymbols : (List ℕ → Header → ℕ → Bool) → List ℕ → Header → Bool
 allSymbols ok f h = allTo (okAt ok f h) (h .symbols)

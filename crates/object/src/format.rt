@@ -6,18 +6,20 @@ ghost use lib.ListN.{getD};
 ghost use Rattle.le.specs.Le.{get};
 ghost use Rattle.object.specs.Format.{headerOf, sectionHeaderAt, symbolRecordAt, stringTable, stringLength};
 
-// Record sizes.
+// The bytes of the records: the file header, a section, a symbol, a relocation.
 pub const HEADER_SIZE: u32 = 20;
 
 pub(crate) const SECTION_SIZE: usize = 40;
 
 pub(crate) const SYMBOL_SIZE: usize = 18;
 
+// An address, a symbol's number and a type.
 pub const RELOCATION_SIZE: usize = 10;
 
-// The bytes of a name field, and of the string table's own length, behind which strings stand.
+// The bytes of a name field, at the start of a section or symbol record.
 pub const NAME_SIZE: usize = 8;
 
+// The bytes of the string table's own length, behind which strings stand.
 pub const LENGTH_SIZE: usize = 4;
 
 // The file header.

@@ -3,7 +3,7 @@
 mod format;
 mod relocations;
 mod sections;
-mod symbols;
+mod symbol_records;
 
 pub use format::HEADER_SIZE;
 pub use format::LENGTH_SIZE;
@@ -33,21 +33,21 @@ pub use sections::relocation_count;
 pub use sections::relocation_pointer;
 pub use sections::relocation_records;
 pub use sections::relocation_start;
-pub use symbols::auxiliaries;
-pub use symbols::auxiliaries_past;
-pub use symbols::fill_primaries;
-pub use symbols::is_own;
-pub use symbols::kind_of;
-pub use symbols::left_after;
-pub use symbols::left_by;
-pub use symbols::listed_of;
-pub use symbols::listed_value;
-pub use symbols::place_of;
-pub use symbols::read_symbol;
-pub use symbols::symbol_class;
-pub use symbols::symbol_kind;
-pub use symbols::symbol_place;
-pub use symbols::symbol_value;
+pub use symbol_records::auxiliaries;
+pub use symbol_records::auxiliaries_past;
+pub use symbol_records::fill_primaries;
+pub use symbol_records::is_own;
+pub use symbol_records::kind_of;
+pub use symbol_records::left_after;
+pub use symbol_records::left_by;
+pub use symbol_records::listed_of;
+pub use symbol_records::listed_value;
+pub use symbol_records::place_of;
+pub use symbol_records::read_symbol;
+pub use symbol_records::symbol_class;
+pub use symbol_records::symbol_kind;
+pub use symbol_records::symbol_place;
+pub use symbol_records::symbol_value;
 
 // What the file header says: where the tables are, and how many records they have.
 pub struct Header {

@@ -17,5 +17,5 @@ abbrev pub KEY-BYTES : ℕ
 KEY-BYTES = 8
 
 -- less, greater, or else what is given
-abbrev pub byNumber : ℕ → ℕ → Order → Order
-byNumber x y o = pick (ltb x y) Less (pick (ltb y x) Greater o)
+abbrev pub orderBy : ℕ → ℕ → Order → Order
+orderBy x y o = pick (ltb x y) Less (pick (ltb y x) Greater o)

@@ -15,7 +15,7 @@ use Rattle.names.specs.declared.Order.the-variants.{Less, Greater}
 use Rattle.names.specs.Bytes.{compareBytes, upToZero}
 use Rattle.names.specs.Name.{spanText}
 use Rattle.names.specs.NameLaws.{text-no-zero, text-bytes}
-use Rattle.order.specs.Key.{key, byNumber, KEY-BYTES}
+use Rattle.order.specs.Key.{key, orderBy, KEY-BYTES}
 
 -- no byte is zero
 abbrev pub NoZero : List ℕ → Type 0
@@ -23,15 +23,15 @@ NoZero s = (i : ℕ) → i < length s → 0 < getD s i 0
 
 -- ---- by number
 module _ (x y : ℕ) (o : Order) where
-  by-less : x < y → byNumber x y o ≡ Less
+  by-less : x < y → orderBy x y o ≡ Less
   unfolding pick
   by-less h = rw (lt-ltb x y h)
 
-  by-greater : y < x → byNumber x y o ≡ Greater
+  by-greater : y < x → orderBy x y o ≡ Greater
   unfolding pick
   by-greater h = rw (le-ltb x y (omega arith), lt-ltb y x h)
 
-  by-equal : x ≡ y → byNumber x y o ≡ o
+  by-equal : x ≡ y → orderBy x y o ≡ o
   unfolding pick
   by-equal e = rw (le-ltb x y (omega arith), le-ltb y x (omega arith))
 
@@ -40,7 +40,7 @@ three : {P : Type 0} (x y : ℕ) → (x < y → P) → (x ≡ y → P) → (y < 
 three x y l e g = ⊎-elim l (⊎-elim e g) (three-ways x y)
 
 -- the same added to both changes nothing
-by-more : (n x y : ℕ) (o : Order) → byNumber (n + x) (n + y) o ≡ byNumber x y o
+by-more : (n x y : ℕ) (o : Order) → orderBy (n + x) (n + y) o ≡ orderBy x y o
 by-more n x y o =
     three x y (λ h. rw (by-less x y o h) (by-less (n + x) (n + y) o (omega arith)))
     (λ h. rw (by-equal x y o h) (by-equal (n + x) (n + y) o (omega arith)))
@@ -72,7 +72,7 @@ key-some k x xs h = let p : 0 < x * 256 ^ k = mul-pos h (pow-pos k) in omega ari
 
 -- ---- the law: the keys decide, and where they are equal what follows the first k bytes
 pub keys-decide : (k : ℕ) (a b : List ℕ) → IsBytes a → NoZero a → IsBytes b → NoZero b
-    → byNumber (key k a) (key k b) (compareBytes (drop k a) (drop k b)) ≡ compareBytes a b
+    → orderBy (key k a) (key k b) (compareBytes (drop k a) (drop k b)) ≡ compareBytes a b
 unfolding key compareBytes
 keys-decide zero a b m t n u = by-equal 0 0 _ refl
 keys-decide (suc k) [] [] m t n u = by-equal 0 0 _ refl
@@ -92,7 +92,7 @@ part-bytes f i n b k =
     (le-or-lt n k)
 
 module _ (f : List ℕ) (bytes : IsBytes f) (a b : Span) where
-  spans-decide : byNumber (key KEY-BYTES (spanText f a)) (key KEY-BYTES (spanText f b)) (compareBytes (drop KEY-BYTES (spanText f a)) (drop KEY-BYTES (spanText f b)))
+  spans-decide : orderBy (key KEY-BYTES (spanText f a)) (key KEY-BYTES (spanText f b)) (compareBytes (drop KEY-BYTES (spanText f a)) (drop KEY-BYTES (spanText f b)))
       ≡ compareBytes (spanText f a) (spanText f b)
   spans-decide =
       let s = part f (a .at) (a .most) in

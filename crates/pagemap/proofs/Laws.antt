@@ -15,7 +15,7 @@ use Rattle.refusal.specs.Refusal.{numberOf, Leaves, leaves-done}
 use Rattle.refusal.specs.declared.Answer.the-variants.{Done}
 use Rattle.refusal.specs.declared.Number.{Number}
 use Rattle.marks.specs.Marks.{WORD-BYTES, wordsFor, marked, allMarked}
-use Rattle.pagemap.specs.Pages.{lent, storageOk, mapped, spanMapped, probed, readCode, sliceCode}
+use Rattle.pagemap.specs.Pages.{lentPages, storageOk, mapped, spanMapped, probed, readCode, sliceCode}
 use Rattle.pagemap.specs.PageLaws.{mapped-of, mapped-marked, read-in, slice-ordered, slice-in}
 
 -- ---- a span: its pages' marks say what its bytes' do
@@ -23,7 +23,7 @@ abbrev pageEnd : ℕ → ℕ → ℕ
 pageEnd o m = pageOf (o + (m - 1)) + 1
 
 module _ (size : ℕ) (marks : List ℕ) (o m : ℕ) where
-  span-bytes : 0 < m → o + m ≤ lent size * PAGE-SIZE → allMarked marks (pageOf o) (pageEnd o m) ≡ allTo (λ k. mapped size marks (o + k)) m
+  span-bytes : 0 < m → o + m ≤ lentPages size * PAGE-SIZE → allMarked marks (pageOf o) (pageEnd o m) ≡ allTo (λ k. mapped size marks (o + k)) m
   unfolding allMarked
   span-bytes z h =
       both-ways (allMarked marks (pageOf o) (pageEnd o m)) (allTo (λ k. mapped size marks (o + k)) m)
@@ -39,34 +39,34 @@ module _ (size : ℕ) (marks : List ℕ) (o m : ℕ) where
       rw q at (mapped-marked size marks (o + k) (all-at (λ k. mapped size marks (o + k)) m k e (omega arith)))))
 
   -- a byte past the lent pages is not mapped
-  span-out : 0 < m → lent size * PAGE-SIZE < o + m → allTo (λ k. mapped size marks (o + k)) m ≡ false
+  span-out : 0 < m → lentPages size * PAGE-SIZE < o + m → allTo (λ k. mapped size marks (o + k)) m ≡ false
   unfolding mapped
   span-out z h =
       all-stop (λ k. mapped size marks (o + k)) (m - 1) m (omega arith)
-      (let f : ltb (pageOf (o + (m - 1))) (lent size) ≡ false = le-ltb (pageOf (o + (m - 1))) (lent size) (omega arith) in rw f)
+      (let f : ltb (pageOf (o + (m - 1))) (lentPages size) ≡ false = le-ltb (pageOf (o + (m - 1))) (lentPages size) (omega arith) in rw f)
 
 module _ (size : ℕ) (marks : List ℕ) (o n m : ℕ) (w : Bool) where
-  pub span-yes : (r : Bool) → m ≡ max n 1 → w ≡ leb (o + m) (lent size * PAGE-SIZE) → w ≡ true
+  pub span-yes : (r : Bool) → m ≡ max n 1 → w ≡ leb (o + m) (lentPages size * PAGE-SIZE) → w ≡ true
       → r ≡ allMarked marks (pageOf o) (pageOf (o + (m - 1)) + 1) → r ≡ spanMapped size marks o n
   unfolding spanMapped
   span-yes r e q t d = d ∙ rw (← e) (span-bytes size marks o m (omega arith) (leb-true _ _ (cc)))
 
-  pub span-no : m ≡ max n 1 → w ≡ leb (o + m) (lent size * PAGE-SIZE) → w ≡ false → false ≡ spanMapped size marks o n
+  pub span-no : m ≡ max n 1 → w ≡ leb (o + m) (lentPages size * PAGE-SIZE) → w ≡ false → false ≡ spanMapped size marks o n
   unfolding spanMapped
   span-no e q t = rw (← e) (sym (span-out size marks o m (omega arith) (leb-false _ _ (cc))))
 
-  pub span-fits : size < 2 ^ 64 → w ≡ leb (o + m) (lent size * PAGE-SIZE) → w ≡ true → o + (m - 1) < 2 ^ 64
-  span-fits f q t = let h : o + m ≤ lent size * PAGE-SIZE = leb-true _ _ (cc) in omega arith
+  pub span-fits : size < 2 ^ 64 → w ≡ leb (o + m) (lentPages size * PAGE-SIZE) → w ≡ true → o + (m - 1) < 2 ^ 64
+  span-fits f q t = let h : o + m ≤ lentPages size * PAGE-SIZE = leb-true _ _ (cc) in omega arith
 
 pub ruleset span-ways = (span-yes, span-no, span-fits)
 
 -- ---- the storage's two tests
-pub storage-is : (size marks w : ℕ) (r : Bool) → w ≡ wordsFor (lent size) → r ≡ (onPage size && leb (WORD-BYTES * w) marks) → r ≡ storageOk size marks
+pub storage-is : (size marks w : ℕ) (r : Bool) → w ≡ wordsFor (lentPages size) → r ≡ (onPage size && leb (WORD-BYTES * w) marks) → r ≡ storageOk size marks
 unfolding storageOk
 storage-is size marks w r e q = rw (← e) q
 
 -- ---- the storage is good, the page is lent, and it is marked
-pub probe-is : (size : ℕ) (marks : List ℕ) (o : ℕ) (r a b m : Bool) → r ≡ (a && b) → a ≡ storageOk size (length marks) → b ≡ (ltb (pageOf o) (lent size) && m)
+pub probe-is : (size : ℕ) (marks : List ℕ) (o : ℕ) (r a b m : Bool) → r ≡ (a && b) → a ≡ storageOk size (length marks) → b ≡ (ltb (pageOf o) (lentPages size) && m)
     → m ≡ marked marks (pageOf o) → r ≡ probed size marks o
 unfolding probed mapped
 probe-is size marks o r a b m e p q d = rw (← p, ← d, ← q) e

@@ -14,21 +14,21 @@ use Rattle.le.specs.Le.{length-splice}
 use Rattle.arch.specs.Page.{PAGE-SIZE, pageOf, onPage}
 use Rattle.marks.specs.Marks.{WORD-PAGES, WORD-BYTES, marked, wordsFor, markBytes, marksPut}
 use Rattle.marks.specs.PutLaws.{marked-pages}
-use Rattle.pagemap.specs.Pages.{lent, storageOk, mapped, spanMapped, probed, readCode, sliceCode}
+use Rattle.pagemap.specs.Pages.{lentPages, storageOk, mapped, spanMapped, probed, readCode, sliceCode}
 
 -- ---- an offset is mapped where its page is lent and marked
 module _ (size : ℕ) (marks : List ℕ) (o : ℕ) where
-  pub mapped-of : pageOf o < lent size → marked marks (pageOf o) ≡ true → mapped size marks o ≡ true
+  pub mapped-of : pageOf o < lentPages size → marked marks (pageOf o) ≡ true → mapped size marks o ≡ true
   unfolding mapped
-  mapped-of h e = and-both (ltb (pageOf o) (lent size)) (marked marks (pageOf o)) (lt-ltb (pageOf o) (lent size) h) e
+  mapped-of h e = and-both (ltb (pageOf o) (lentPages size)) (marked marks (pageOf o)) (lt-ltb (pageOf o) (lentPages size) h) e
 
-  pub mapped-lent : mapped size marks o ≡ true → pageOf o < lent size
+  pub mapped-lent : mapped size marks o ≡ true → pageOf o < lentPages size
   unfolding mapped
-  mapped-lent e = ltb-true (pageOf o) (lent size) (and-left (ltb (pageOf o) (lent size)) (marked marks (pageOf o)) e)
+  mapped-lent e = ltb-true (pageOf o) (lentPages size) (and-left (ltb (pageOf o) (lentPages size)) (marked marks (pageOf o)) e)
 
   pub mapped-marked : mapped size marks o ≡ true → marked marks (pageOf o) ≡ true
   unfolding mapped
-  mapped-marked e = and-right (ltb (pageOf o) (lent size)) (marked marks (pageOf o)) e
+  mapped-marked e = and-right (ltb (pageOf o) (lentPages size)) (marked marks (pageOf o)) e
 
 -- ---- a span is mapped where each of its bytes is
 module _ (size : ℕ) (marks : List ℕ) (o n : ℕ) where
@@ -110,12 +110,12 @@ module _ (size : ℕ) (marks : List ℕ) (o : ℕ) where
 module _ (size marks : ℕ) (e : storageOk size marks ≡ true) where
   pub storage-whole : size % PAGE-SIZE ≡ 0
   unfolding storageOk
-  storage-whole = eqb-true (size % PAGE-SIZE) 0 (and-left (onPage size) (leb (WORD-BYTES * wordsFor (lent size)) marks) e)
+  storage-whole = eqb-true (size % PAGE-SIZE) 0 (and-left (onPage size) (leb (WORD-BYTES * wordsFor (lentPages size)) marks) e)
 
-  pub storage-marks : lent size ≤ WORD-PAGES * (marks / WORD-BYTES)
+  pub storage-marks : lentPages size ≤ WORD-PAGES * (marks / WORD-BYTES)
   unfolding storageOk
   storage-marks =
-      let h = leb-true (WORD-BYTES * wordsFor (lent size)) marks (and-right (onPage size) (leb (WORD-BYTES * wordsFor (lent size)) marks) e) in
+      let h = leb-true (WORD-BYTES * wordsFor (lentPages size)) marks (and-right (onPage size) (leb (WORD-BYTES * wordsFor (lentPages size)) marks) e) in
       omega arith
 
 -- ---- with the marks of the first pages

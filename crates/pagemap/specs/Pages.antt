@@ -11,16 +11,16 @@ use Rattle.refusal.specs.Refusal.{STORAGE, NOT-MAPPED}
 use Rattle.marks.specs.Marks.{WORD-BYTES, marked, wordsFor}
 
 -- how many pages an image of `size` bytes lends
-abbrev pub lent : ℕ → ℕ
-lent size = size / PAGE-SIZE
+abbrev pub lentPages : ℕ → ℕ
+lentPages size = size / PAGE-SIZE
 
 -- 13 is not given: the image is whole pages, and there are marks for all of them
 unfoldable pub storageOk : ℕ → ℕ → Bool
-storageOk size marks = onPage size && leb (WORD-BYTES * wordsFor (lent size)) marks
+storageOk size marks = onPage size && leb (WORD-BYTES * wordsFor (lentPages size)) marks
 
 -- an offset is mapped: its page is one of the lent ones, and marked
 unfoldable pub mapped : ℕ → List ℕ → ℕ → Bool
-mapped size marks o = ltb (pageOf o) (lent size) && marked marks (pageOf o)
+mapped size marks o = ltb (pageOf o) (lentPages size) && marked marks (pageOf o)
 
 -- n bytes from o are: each of them; if there are none, o itself
 unfoldable pub spanMapped : ℕ → List ℕ → ℕ → ℕ → Bool

@@ -21,14 +21,14 @@ use Rattle.refusal.specs.declared.Answer.the-variants.{Done, Refused}
 use Rattle.marks.specs.Marks.{WORD-PAGES, WORD-BYTES}
 use Rattle.pagemap.specs.Pages.{storageOk, readCode}
 use Rattle.pagemap.specs.PageLaws.{read-in}
-use Rattle.pagewrite.specs.Marking.{mark, markPages}
+use Rattle.pagewrite.specs.Marking.{markPage, markPages}
 use Rattle.pagewrite.specs.MarkingLaws.{length-pages}
 use Rattle.pagewrite.specs.PageWrite.{pagesLent, paddedWriteCode, padded, capacityCode}
 use Rattle.pagewrite.specs.PageWriteLaws.{padded-fits}
 
 -- ---- the marks
-pub mark-is : (m x : List ℕ) (p w : ℕ) → w ≡ get WORD-BYTES m (WORD-BYTES * (p / WORD-PAGES)) → x ≡ splice m (WORD-BYTES * (p / WORD-PAGES)) (le WORD-BYTES (bitOr w (1 * 2 ^ (p % WORD-PAGES) % 2 ^ 64))) → x ≡ mark m p
-unfolding mark
+pub mark-is : (m x : List ℕ) (p w : ℕ) → w ≡ get WORD-BYTES m (WORD-BYTES * (p / WORD-PAGES)) → x ≡ splice m (WORD-BYTES * (p / WORD-PAGES)) (le WORD-BYTES (bitOr w (1 * 2 ^ (p % WORD-PAGES) % 2 ^ 64))) → x ≡ markPage m p
+unfolding markPage
 mark-is m x p w d q =
     let f : p % WORD-PAGES < WORD-PAGES = mod-lt p (omega arith) in
     let s : 1 * 2 ^ (p % WORD-PAGES) % 2 ^ 64 ≡ 1 * 2 ^ (p % WORD-PAGES) = shl-exact 1 (p % WORD-PAGES) 64 (omega arith) (omega arith) in
@@ -38,7 +38,7 @@ pub pages-none : (m : List ℕ) (p : ℕ) → m ≡ markPages m p 0
 unfolding markPages
 pages-none m p = refl
 
-pub pages-again : (m x y : List ℕ) (p k : ℕ) → x ≡ markPages m p k → y ≡ mark x (p + k) → y ≡ markPages m p (k + 1)
+pub pages-again : (m x y : List ℕ) (p k : ℕ) → x ≡ markPages m p k → y ≡ markPage x (p + k) → y ≡ markPages m p (k + 1)
 unfolding markPages
 pages-again m x y p k e d = rw (add-one, d, e)
 

@@ -6,12 +6,12 @@ use Rattle.le.specs.Le.{le, splice}
 use Rattle.marks.specs.Marks.{WORD-PAGES, WORD-BYTES, wordAt}
 
 -- the marks with page p's set
-unfoldable pub mark : List ℕ → ℕ → List ℕ
-mark marks p =
+unfoldable pub markPage : List ℕ → ℕ → List ℕ
+markPage marks p =
     splice marks (WORD-BYTES * (p / WORD-PAGES))
     (le WORD-BYTES (bitOr (wordAt marks (p / WORD-PAGES)) (2 ^ (p % WORD-PAGES))))
 
 -- with those of the n pages from p set
 unfoldable pub markPages : List ℕ → ℕ → ℕ → List ℕ
 markPages marks p zero = marks
-markPages marks p (suc n) = mark (markPages marks p n) (p + n)
+markPages marks p (suc n) = markPage (markPages marks p n) (p + n)

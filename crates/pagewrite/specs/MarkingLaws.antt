@@ -15,11 +15,11 @@ use Rattle.util.specs.Pick.{yes-no, le-or-lt, and-left, and-right, and-both, no
 use Rattle.le.specs.Le.{le, length-le, length-splice, get-splice, get-before, get-after, IsBytes, splice-bytes, le-bytes}
 use Rattle.marks.specs.Marks.{WORD-PAGES, WORD-BYTES, marked, wordAt}
 use Rattle.marks.specs.MarkLaws.{word-less}
-use Rattle.pagewrite.specs.Marking.{mark, markPages}
+use Rattle.pagewrite.specs.Marking.{markPage, markPages}
 
 -- ---- the length is kept
-pub length-mark : (m : List ℕ) (p : ℕ) → length (mark m p) ≡ length m
-unfolding mark
+pub length-mark : (m : List ℕ) (p : ℕ) → length (markPage m p) ≡ length m
+unfolding markPage
 length-mark m p = rw length-splice
 
 pub length-pages : (m : List ℕ) (p n : ℕ) → length (markPages m p n) ≡ length m
@@ -28,8 +28,8 @@ length-pages m p zero = refl
 length-pages m p (suc n) = length-mark (markPages m p n) (p + n) ∙ length-pages m p n
 
 -- ---- each element is a byte
-pub mark-bytes : (m : List ℕ) (p : ℕ) → IsBytes m → IsBytes (mark m p)
-unfolding mark
+pub mark-bytes : (m : List ℕ) (p : ℕ) → IsBytes m → IsBytes (markPage m p)
+unfolding markPage
 mark-bytes m p b = splice-bytes m (WORD-BYTES * (p / WORD-PAGES)) (le WORD-BYTES (bitOr (wordAt m (p / WORD-PAGES)) (2 ^ (p % WORD-PAGES)))) b (le-bytes WORD-BYTES (bitOr (wordAt m (p / WORD-PAGES)) (2 ^ (p % WORD-PAGES))))
 
 pub pages-bytes : (m : List ℕ) (p n : ℕ) → IsBytes m → IsBytes (markPages m p n)
@@ -55,25 +55,25 @@ bit-other i j n =
 
 -- ---- a mark that is set is there, and no other has changed; page p's word must lie within the marks
 module _ (m : List ℕ) (p : ℕ) (b : IsBytes m) (within : WORD-BYTES * (p / WORD-PAGES) + WORD-BYTES ≤ length m) where
-  word-marked : wordAt (mark m p) (p / WORD-PAGES) ≡ bitOr (wordAt m (p / WORD-PAGES)) (2 ^ (p % WORD-PAGES))
-  unfolding mark
+  word-marked : wordAt (markPage m p) (p / WORD-PAGES) ≡ bitOr (wordAt m (p / WORD-PAGES)) (2 ^ (p % WORD-PAGES))
+  unfolding markPage
   word-marked =
       get-splice WORD-BYTES (bitOr (wordAt m (p / WORD-PAGES)) (2 ^ (p % WORD-PAGES))) m (WORD-BYTES * (p / WORD-PAGES)) within
       (or-lt WORD-PAGES (wordAt m (p / WORD-PAGES)) (2 ^ (p % WORD-PAGES)) (word-less m (p / WORD-PAGES) b) (pow-lt (mod-lt p (omega arith))))
 
-  word-kept : (w : ℕ) → (w ≡ p / WORD-PAGES → ⊥) → wordAt (mark m p) w ≡ wordAt m w
-  unfolding mark
+  word-kept : (w : ℕ) → (w ≡ p / WORD-PAGES → ⊥) → wordAt (markPage m p) w ≡ wordAt m w
+  unfolding markPage
   word-kept w n =
       ⊎-elim
       (λ (h : w ≤ p / WORD-PAGES). get-before WORD-BYTES m (WORD-BYTES * (p / WORD-PAGES)) (le WORD-BYTES (bitOr (wordAt m (p / WORD-PAGES)) (2 ^ (p % WORD-PAGES)))) (WORD-BYTES * w) (omega arith))
       (λ (h : p / WORD-PAGES < w). get-after WORD-BYTES m (WORD-BYTES * (p / WORD-PAGES)) (le WORD-BYTES (bitOr (wordAt m (p / WORD-PAGES)) (2 ^ (p % WORD-PAGES)))) (WORD-BYTES * w) (rw length-le (omega arith)))
       (le-or-lt w (p / WORD-PAGES))
 
-  pub mark-there : marked (mark m p) p ≡ true
+  pub mark-there : marked (markPage m p) p ≡ true
   unfolding marked
   mark-there = rw (word-marked, bit-or, bit-same) (eq-eqb (max (wordAt m (p / WORD-PAGES) / 2 ^ (p % WORD-PAGES) % 2) 1) 1 (omega arith))
 
-  pub mark-other : (q : ℕ) → (q ≡ p → ⊥) → marked (mark m p) q ≡ marked m q
+  pub mark-other : (q : ℕ) → (q ≡ p → ⊥) → marked (markPage m p) q ≡ marked m q
   unfolding marked
   mark-other q n =
       ⊎-elim
@@ -85,7 +85,7 @@ module _ (m : List ℕ) (p : ℕ) (b : IsBytes m) (within : WORD-BYTES * (p / WO
       (yes-no (eqb (q / WORD-PAGES) (p / WORD-PAGES)))
 
   -- the two in one
-  pub marked-mark : (q : ℕ) → marked (mark m p) q ≡ eqb q p || marked m q
+  pub marked-mark : (q : ℕ) → marked (markPage m p) q ≡ eqb q p || marked m q
   marked-mark q =
       ⊎-elim
       (λ t. let e : q ≡ p = eqb-true q p t in rw (t, e) mark-there)

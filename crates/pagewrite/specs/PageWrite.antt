@@ -7,16 +7,17 @@ use lib.Dec.{leb, eqb}
 use Rattle.util.specs.Pick.{pick}
 use Rattle.arch.specs.Page.{PAGE-SIZE, pageOf, onPage}
 use Rattle.refusal.specs.Refusal.{STORAGE, NOT-MAPPED, NOT-ON-A-PAGE, NOT-WHOLE-PAGES}
-use Rattle.pagemap.specs.Pages.{lent, storageOk}
+use Rattle.pagemap.specs.Pages.{lentPages, storageOk}
 
 -- n pages from o are lent; none are anywhere
 unfoldable pub pagesLent : ℕ → ℕ → ℕ → Bool
 pagesLent size o n = pick (eqb n 0) true (leb (o + n * PAGE-SIZE) size)
 
--- how many pages n bytes are, of a page write or an empty map; of a padded write
+-- how many pages n bytes are, of a page write or an empty map
 abbrev pub wholePages : ℕ → ℕ
 wholePages n = n / PAGE-SIZE
 
+-- of a padded write: rounded down and one more, so that whole pages get a page of zeros behind them
 abbrev pub paddedPages : ℕ → ℕ
 paddedPages n = n / PAGE-SIZE + 1
 
@@ -38,4 +39,4 @@ padded items = items ++ replicate (paddedPages (length items) * PAGE-SIZE - leng
 
 -- an empty map for offsets up to `capacity`, which is lent one page more: 13
 unfoldable pub capacityCode : ℕ → ℕ → ℕ → ℕ
-capacityCode size marks capacity = pick (storageOk size marks) (pick (leb (pageOf capacity + 1) (lent size)) 0 STORAGE) STORAGE
+capacityCode size marks capacity = pick (storageOk size marks) (pick (leb (pageOf capacity + 1) (lentPages size)) 0 STORAGE) STORAGE

@@ -64,6 +64,7 @@ module _ (size marks o n : ℕ) where
         let h = eqb-true (n % PAGE-SIZE) 0 (head-passes (onPage n) (lentCode size o (wholePages n)) 17 w (λ z. omega arith)) in
         omega arith
 
+    -- a page write or an empty map that is not refused fits
     pub write-fits : PagesFit size marks o (wholePages n)
     unfolding pageWriteCode
     write-fits = fits-from (wholePages n) (wholeCode size o n) e (λ w. rest-passes (onPage n) (lentCode size o (wholePages n)) 17 w (λ z. omega arith))
@@ -125,6 +126,7 @@ module _ (image marks vs : List ℕ) (o n : ℕ) (f : PagesFit (length image) (l
       let a = f .start in
       rw (pages-other marks (pageOf o) b n (pageOf k) has-marks (λ x y. h (omega arith) (omega arith)))
 
+  -- all of that, where n pages from o fit
   pub written : PageWritten image marks vs o n
   written = record {
     there = wrote-there;

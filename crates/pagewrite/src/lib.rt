@@ -1,14 +1,14 @@
 // Page writes, from pagemap.rs: whole pages in lent storage, each marked as mapped. All that can be refused is tested before a byte or a mark changes.
-mod codes;
 mod marking;
+mod refusals;
 
 use arch::PAGE_SIZE;
 use arch::RVA;
-use codes::capacity_code;
-use codes::padded_write_code;
-use codes::page_write_code;
 use marking::mark_pages;
 use refusal::Answer;
+use refusals::capacity_code;
+use refusals::padded_write_code;
+use refusals::page_write_code;
 ghost use mathlib.Core.Path.{_≡_};
 ghost use lib.ListN.{length, replicate, set as List·set};
 ghost use Rattle.util.specs.Align.{roundUp};

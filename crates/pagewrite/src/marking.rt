@@ -3,11 +3,11 @@ use marks::WORD_BYTES;
 use marks::WORD_PAGES;
 ghost use mathlib.Core.Path.{_≡_};
 ghost use Prim.Native.Nat.{_+_, _<_, _^_};
-ghost use Rattle.pagewrite.specs.Marking.{mark, markPages};
+ghost use Rattle.pagewrite.specs.Marking.{markPage, markPages};
 
 // Sets page p's bit.
 fn mark(marks: &mut [u8], p: u64)
-    ensures { λ _. ⌜ now (marks .exit) ≡ mark (now (marks .entry)) p ⌝ }
+    ensures { λ _. ⌜ now (marks .exit) ≡ markPage (now (marks .entry)) p ⌝ }
 {
     let at = (WORD_BYTES * (p / WORD_PAGES)) as usize;
     let word = le::u64_at(marks, at);

@@ -16,9 +16,9 @@ use Rattle.le.specs.Le.{get, le, part, splice, length-le, le-low, get-same, par
 use Rattle.arch.specs.Page.{PAGE-SIZE}
 use Rattle.marks.specs.Marks.{allMarked}
 use Rattle.refusal.specs.Refusal.{new-is, old-is}
-use Rattle.pagemap.specs.Pages.{lent, storageOk}
+use Rattle.pagemap.specs.Pages.{lentPages, storageOk}
 use Rattle.pagemap.specs.PageLaws.{storage-whole}
-use Rattle.aspace.specs.Space.{spanAt}
+use Rattle.aspace.specs.Space.{spanMappedAt}
 use Rattle.patch.specs.declared.answer.Patch.the-variants.{Applied, Refused}
 use Rattle.patch.specs.Fixes.{NARROW, WIDE, NARROW-BYTES, WIDE-BYTES, fixCount, placeAt, bitsAt, valueAt, widthOf, knownBits, fixOk, fixed, fixedFrom, length-from}
 use Rattle.patch.specs.Inside.{spanIn, fixIn, portionIn, allMapped, portion-inside, mapped-room, mapped-below, portion-same}
@@ -55,7 +55,7 @@ part-put l ys at n v h e =
     rw (q, post-is at (at + n) l (omega arith)) (sym (sets-eq (le n v) l at (omega arith) ∙ rw w (append-assoc (take at l) (le n v) (drop (at + n) l))))
 
 -- ---- one fixup
-pub fix-is : (size : ℕ) (marks : List ℕ) (base : ℕ) (fixes : List ℕ) (k bits place w : ℕ) (r a m : Bool) → r ≡ (a && m) → a ≡ knownBits bits → m ≡ spanAt size marks base place w
+pub fix-is : (size : ℕ) (marks : List ℕ) (base : ℕ) (fixes : List ℕ) (k bits place w : ℕ) (r a m : Bool) → r ≡ (a && m) → a ≡ knownBits bits → m ≡ spanMappedAt size marks base place w
     → bits ≡ bitsAt fixes k → place ≡ placeAt fixes k → w ≡ widthOf bits → r ≡ fixOk size marks base fixes k
 unfolding fixOk
 fix-is size marks base fixes k bits place w r a m e known mapped b p q = rw (← b, ← known, ← p, ← q, ← mapped) e
@@ -89,7 +89,7 @@ module _ (size base : ℕ) (fixes : List ℕ) (k bits : ℕ) (is : bits ≡ bits
 pub ruleset in-ways = (in-narrow, in-wide, in-neither)
 
 module _ (size : ℕ) (marks : List ℕ) (base : ℕ) where
-  pub mapped-is : (r a b : Bool) → r ≡ (a && b) → a ≡ (leb WIDE-BYTES size && leb size (2 ^ 64 - 1 - base)) → b ≡ allMarked marks 0 (lent size) → r ≡ allMapped size marks base
+  pub mapped-is : (r a b : Bool) → r ≡ (a && b) → a ≡ (leb WIDE-BYTES size && leb size (2 ^ 64 - 1 - base)) → b ≡ allMarked marks 0 (lentPages size) → r ≡ allMapped size marks base
   unfolding allMapped
   mapped-is r a b e p q = rw (← p, ← q) e
 

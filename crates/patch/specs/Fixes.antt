@@ -8,25 +8,29 @@ use lib.ListN.{length}
 use Rattle.util.specs.Pick.{pick}
 use Rattle.limits.specs.Limits.{FIXUP-BYTES}
 use Rattle.le.specs.Le.{get, le, splice, length-splice}
-use Rattle.aspace.specs.Space.{spanAt}
+use Rattle.aspace.specs.Space.{spanMappedAt}
 
--- where a record has its bits and its value; its place stands first
+-- where the bits of a record stand, in bytes from its start; its place stands first
 abbrev pub BITS-FIELD : ℕ
 BITS-FIELD = 8
 
+-- where its value stands
 abbrev pub VALUE-FIELD : ℕ
 VALUE-FIELD = 16
 
--- the bits of a narrow fixup and of a wide one, and the bytes that each covers
+-- the bits of a fixup of 4 bytes
 abbrev pub NARROW : ℕ
 NARROW = 32
 
+-- of one of 8; no other width is applied (15)
 abbrev pub WIDE : ℕ
 WIDE = 64
 
+-- the bytes that a narrow one covers
 abbrev pub NARROW-BYTES : ℕ
 NARROW-BYTES = 4
 
+-- and a wide one
 abbrev pub WIDE-BYTES : ℕ
 WIDE-BYTES = 8
 
@@ -34,13 +38,15 @@ WIDE-BYTES = 8
 abbrev pub fixCount : List ℕ → ℕ
 fixCount fixes = length fixes / FIXUP-BYTES
 
--- record k: the address of its place, its bits, its value
+-- record k: the address of its place
 abbrev pub placeAt : List ℕ → ℕ → ℕ
 placeAt fixes k = get 8 fixes (FIXUP-BYTES * k)
 
+-- its width in bits
 abbrev pub bitsAt : List ℕ → ℕ → ℕ
 bitsAt fixes k = get 8 fixes (FIXUP-BYTES * k + BITS-FIELD)
 
+-- its value, in two's complement of 64 bits
 abbrev pub valueAt : List ℕ → ℕ → ℕ
 valueAt fixes k = get 8 fixes (FIXUP-BYTES * k + VALUE-FIELD)
 
@@ -55,7 +61,7 @@ knownBits bits = eqb bits NARROW || eqb bits WIDE
 -- it can be applied: its width is known, and all its bytes are mapped
 unfoldable pub fixOk : ℕ → List ℕ → ℕ → List ℕ → ℕ → Bool
 fixOk size marks base fixes k =
-    knownBits (bitsAt fixes k) && spanAt size marks base (placeAt fixes k) (widthOf (bitsAt fixes k))
+    knownBits (bitsAt fixes k) && spanMappedAt size marks base (placeAt fixes k) (widthOf (bitsAt fixes k))
 
 -- the image once it is applied: the low bytes of its value stand at its place
 unfoldable pub fixed : ℕ → List ℕ → List ℕ → ℕ → List ℕ

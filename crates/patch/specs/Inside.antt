@@ -12,9 +12,9 @@ use Rattle.util.specs.Prefix.{allTo, all-at, all-of}
 use Rattle.arch.specs.Page.{PAGE-SIZE, pageOf}
 use Rattle.marks.specs.Marks.{allMarked}
 use Rattle.marks.specs.MarkLaws.{pages-at}
-use Rattle.pagemap.specs.Pages.{lent, spanMapped}
+use Rattle.pagemap.specs.Pages.{lentPages, spanMapped}
 use Rattle.pagemap.specs.PageLaws.{mapped-of, span-of, span-in}
-use Rattle.aspace.specs.Space.{reached, spanAt}
+use Rattle.aspace.specs.Space.{reached, spanMappedAt}
 use Rattle.patch.specs.Fixes.{NARROW, WIDE-BYTES, placeAt, bitsAt, widthOf, knownBits, fixOk}
 use Rattle.patch.specs.Patch.{portionOk}
 
@@ -32,7 +32,7 @@ portionIn size base fixes p n = allTo (λ k. fixIn size base fixes (p + k)) n
 
 -- every page of the image is marked; it has room for a fixup, and ends below 2 ^ 64 at the base
 unfoldable pub allMapped : ℕ → List ℕ → ℕ → Bool
-allMapped size marks base = (leb WIDE-BYTES size && leb size (2 ^ 64 - 1 - base)) && allMarked marks 0 (lent size)
+allMapped size marks base = (leb WIDE-BYTES size && leb size (2 ^ 64 - 1 - base)) && allMarked marks 0 (lentPages size)
 
 width-some : (bits : ℕ) → 0 < widthOf bits
 unfolding pick
@@ -40,8 +40,8 @@ width-some bits = ⊎-elim (λ e. rw e (omega arith)) (λ e. rw e (omega arith))
 
 -- ---- bytes that are mapped lie in the image
 module _ (size : ℕ) (marks : List ℕ) (base a n : ℕ) where
-  span-inside : spanAt size marks base a n ≡ true → spanIn size base a n ≡ true
-  unfolding spanAt reached spanIn
+  span-inside : spanMappedAt size marks base a n ≡ true → spanIn size base a n ≡ true
+  unfolding spanMappedAt reached spanIn
   span-inside e =
       let r = and-left (reached base a n) (spanMapped size marks (a - base) n) e in
       let m = and-right (reached base a n) (spanMapped size marks (a - base) n) e in
@@ -51,19 +51,19 @@ module _ (size : ℕ) (marks : List ℕ) (base a n : ℕ) where
       and-both (leb base a) (leb (a + n) (base + size)) b (le-leb (a + n) (base + size) (omega arith))
 
   -- and where every page is marked, those that lie in it are mapped
-  module _ (whole : size % PAGE-SIZE ≡ 0) (below : base + size < 2 ^ 64) (all : allMarked marks 0 (lent size) ≡ true) (some : 0 < n) where
-    inside-span : spanIn size base a n ≡ true → spanAt size marks base a n ≡ true
-    unfolding spanAt reached spanIn
+  module _ (whole : size % PAGE-SIZE ≡ 0) (below : base + size < 2 ^ 64) (all : allMarked marks 0 (lentPages size) ≡ true) (some : 0 < n) where
+    inside-span : spanIn size base a n ≡ true → spanMappedAt size marks base a n ≡ true
+    unfolding spanMappedAt reached spanIn
     inside-span e =
         let h = leb-true base a (and-left (leb base a) (leb (a + n) (base + size)) e) in
         let i = leb-true (a + n) (base + size) (and-right (leb base a) (leb (a + n) (base + size)) e) in
         and-both (leb base a && leb (a + max n 1) (2 ^ 64)) (spanMapped size marks (a - base) n)
         (and-both (leb base a) (leb (a + max n 1) (2 ^ 64)) (le-leb base a h) (le-leb (a + max n 1) (2 ^ 64) (omega arith)))
         (span-of size marks (a - base) n
-        (λ k l. mapped-of size marks (a - base + k) (omega arith) (pages-at marks 0 (lent size) (pageOf (a - base + k)) all (omega arith) (omega arith))))
+        (λ k l. mapped-of size marks (a - base + k) (omega arith) (pages-at marks 0 (lentPages size) (pageOf (a - base + k)) all (omega arith) (omega arith))))
 
-    span-same : spanAt size marks base a n ≡ spanIn size base a n
-    span-same = both-ways (spanAt size marks base a n) (spanIn size base a n) span-inside inside-span
+    span-same : spanMappedAt size marks base a n ≡ spanIn size base a n
+    span-same = both-ways (spanMappedAt size marks base a n) (spanIn size base a n) span-inside inside-span
 
 -- ---- so does a fixup that can be applied
 module _ (size : ℕ) (marks : List ℕ) (base : ℕ) (fixes : List ℕ) where
@@ -72,7 +72,7 @@ module _ (size : ℕ) (marks : List ℕ) (base : ℕ) (fixes : List ℕ) where
   fix-inside k e =
       let b : Bool = knownBits (bitsAt fixes k) in
       let w : ℕ = widthOf (bitsAt fixes k) in
-      let s = spanAt size marks base (placeAt fixes k) w in
+      let s = spanMappedAt size marks base (placeAt fixes k) w in
       and-both b (spanIn size base (placeAt fixes k) w) (and-left b s e) (span-inside size marks base (placeAt fixes k) w (and-right b s e))
 
   pub portion-inside : (p n : ℕ) → portionOk size marks base fixes p n ≡ true → portionIn size base fixes p n ≡ true
@@ -83,7 +83,7 @@ module _ (size : ℕ) (marks : List ℕ) (base : ℕ) (fixes : List ℕ) where
 module _ (size : ℕ) (marks : List ℕ) (base : ℕ) (all : allMapped size marks base ≡ true) where
   tests : leb WIDE-BYTES size && leb size (2 ^ 64 - 1 - base) ≡ true
   unfolding allMapped
-  tests = and-left (leb WIDE-BYTES size && leb size (2 ^ 64 - 1 - base)) (allMarked marks 0 (lent size)) all
+  tests = and-left (leb WIDE-BYTES size && leb size (2 ^ 64 - 1 - base)) (allMarked marks 0 (lentPages size)) all
 
   pub mapped-room : WIDE-BYTES ≤ size
   mapped-room = leb-true WIDE-BYTES size (and-left (leb WIDE-BYTES size) (leb size (2 ^ 64 - 1 - base)) tests)
@@ -94,9 +94,9 @@ module _ (size : ℕ) (marks : List ℕ) (base : ℕ) (all : allMapped size mark
       let r = mapped-room in
       omega arith
 
-  mapped-marks : allMarked marks 0 (lent size) ≡ true
+  mapped-marks : allMarked marks 0 (lentPages size) ≡ true
   unfolding allMapped
-  mapped-marks = and-right (leb WIDE-BYTES size && leb size (2 ^ 64 - 1 - base)) (allMarked marks 0 (lent size)) all
+  mapped-marks = and-right (leb WIDE-BYTES size && leb size (2 ^ 64 - 1 - base)) (allMarked marks 0 (lentPages size)) all
 
 module _ (size : ℕ) (marks : List ℕ) (base : ℕ) (fixes : List ℕ) (whole : size % PAGE-SIZE ≡ 0) (all : allMapped size marks base ≡ true) where
   fix-same : (k : ℕ) → fixIn size base fixes k ≡ fixOk size marks base fixes k

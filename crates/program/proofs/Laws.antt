@@ -15,7 +15,7 @@ use Rattle.patch.specs.declared.answer.Patch.{Patch}
 use Rattle.patch.specs.Patch.{Patches}
 use Rattle.load.specs.declared.answer.Load.{Load}
 use Rattle.load.specs.Load.{Loads}
-use Rattle.load.specs.Loading.{storage}
+use Rattle.storage.specs.Storage.{storage}
 use Rattle.text.specs.Text.{Puts}
 use Rattle.text.specs.TextLaws.{puts-whole}
 use Rattle.lines.specs.Lines.{refusedLine, tooLargeLine}
@@ -27,9 +27,9 @@ use Rattle.survey.specs.declared.answer.Counts.{Counts}
 use Rattle.verdict.specs.declared.answer.Verdict.{Verdict}
 use Rattle.verdict.specs.declared.answer.Verdict.the-variants.{TooLarge, Refused, Lines}
 use Rattle.verdict.specs.Verdict.{verdictOf}
-use Rattle.program.specs.Output.{BASE, symbolsOf, skipTableOf, lineOf, lineTotal}
+use Rattle.program.specs.Output.{PROGRAM-BASE, symbolsOf, skipTableOf, lineOf, lineTotal}
 use Rattle.program.specs.Within.{Within, within}
-use Rattle.program.specs.Holding.{LINE-ROOM, Said, Ready, Holds, Printed, holds, image-patched}
+use Rattle.program.specs.Holding.{LINE-ROOM, Said, Ready, HoldsTables, Printed, holds, image-patched}
 
 -- ---- a line that is written
 abbrev Bytes : List ℕ → Type 0
@@ -56,9 +56,9 @@ module _ (f : List ℕ) (a : List ℕ) (n : ℕ) (line : List ℕ) where
         early = omega arith;
       }
 
-  pub said-listed : (c : Counts) (sections symbols externs fixups skips : List ℕ) (i k : ℕ) → Holds f c sections symbols externs fixups skips → i < 1000 → k ≡ i
+  pub said-listed : (c : Counts) (sections symbols externs fixups skips : List ℕ) (i k : ℕ) → HoldsTables f c sections symbols externs fixups skips → i < 1000 → k ≡ i
       → Bytes sections → Bytes symbols → Bytes externs → Bytes fixups → Bytes skips
-      → Puts (replicate LINE-ROOM 0) 0 (getD (listing f BASE c sections symbols externs fixups skips) k []) a n → line ≡ part a 0 n → Said f i line
+      → Puts (replicate LINE-ROOM 0) 0 (getD (listing f PROGRAM-BASE c sections symbols externs fixups skips) k []) a n → line ≡ part a 0 n → Said f i line
   unfolding lineOf
   said-listed c sections symbols externs fixups skips j k h l m s y x z w p q =
       let i = h .few in
@@ -66,10 +66,10 @@ module _ (f : List ℕ) (a : List ℕ) (n : ℕ) (line : List ℕ) where
       let i₂ = i .skips in
       let i₃ = i .passed in
       let i₄ = i .bytes in
-      let v = line-long f BASE c sections symbols externs fixups skips (omega arith) (omega arith) (omega arith) (omega arith)
+      let v = line-long f PROGRAM-BASE c sections symbols externs fixups skips (omega arith) (omega arith) (omega arith) (omega arith)
       (small sections s) (small symbols y) (small externs x) (small fixups z) (small skips w) k in
-      let r = puts-whole (getD (listing f BASE c sections symbols externs fixups skips) k []) (replicate LINE-ROOM 0) a n p (rw (length-replicate {A = ℕ} LINE-ROOM 0) (omega arith)) in
-      let t : listing f BASE c sections symbols externs fixups skips ≡ listing f BASE c (sectionsOf f BASE) (symbolsOf f) (externsOf f BASE) (fixTableOf f BASE) (skipTableOf f) =
+      let r = puts-whole (getD (listing f PROGRAM-BASE c sections symbols externs fixups skips) k []) (replicate LINE-ROOM 0) a n p (rw (length-replicate {A = ℕ} LINE-ROOM 0) (omega arith)) in
+      let t : listing f PROGRAM-BASE c sections symbols externs fixups skips ≡ listing f PROGRAM-BASE c (sectionsOf f PROGRAM-BASE) (symbolsOf f) (externsOf f PROGRAM-BASE) (fixTableOf f PROGRAM-BASE) (skipTableOf f) =
       rw (h .section-table, h .symbol-table, h .extern-table, h .fixup-table, h .skip-table) in
       record { is = rw (i .verdict, ← m) (q ∙ r ∙ ap (λ (x : List (List ℕ)). getD x k []) t); early = l }
 
@@ -83,7 +83,7 @@ module _ (f : List ℕ) where
   unfolding lineTotal
   one-refused r k n e z q = rw e (rw z at q)
 
-  module _ (c : Counts) (sections symbols externs fixups skips : List ℕ) (h : Holds f c sections symbols externs fixups skips) where
+  module _ (c : Counts) (sections symbols externs fixups skips : List ℕ) (h : HoldsTables f c sections symbols externs fixups skips) where
     few : lineCount c < 1000
     unfolding lineCount
     few =
@@ -97,7 +97,7 @@ module _ (f : List ℕ) where
 
     total : lineTotal f ≡ lineCount c
     unfolding lineTotal
-    total = rw (h .few .verdict) (lines-counted f BASE c (sectionsOf f BASE) (symbolsOf f) (externsOf f BASE) (fixTableOf f BASE) (skipTableOf f))
+    total = rw (h .few .verdict) (lines-counted f PROGRAM-BASE c (sectionsOf f PROGRAM-BASE) (symbolsOf f) (externsOf f PROGRAM-BASE) (fixTableOf f PROGRAM-BASE) (skipTableOf f))
 
     pub early : (i k n : ℕ) → n ≡ lineCount c % 2 ^ 64 → k ≡ i → k < n → i < 1000
     early i k n e m q = let l = few in omega arith
@@ -144,10 +144,10 @@ module _ (f : List ℕ) (c : Counts) where
             };
       }
 
-  module _ (i m s y e x k i′ m′ s′ y′ e′ x′ k′ : List ℕ) (r : Load) (ready : Ready f c (storage i m s y e x k)) (loads : Loads f BASE (storage i m s y e x k) (storage i′ m′ s′ y′ e′ x′ k′) r) where
-    pub now-holds : Holds f c s′ y′ e′ x′ k′
+  module _ (i m s y e x k i′ m′ s′ y′ e′ x′ k′ : List ℕ) (r : Load) (ready : Ready f c (storage i m s y e x k)) (loads : Loads f PROGRAM-BASE (storage i m s y e x k) (storage i′ m′ s′ y′ e′ x′ k′) r) where
+    pub now-holds : HoldsTables f c s′ y′ e′ x′ k′
     now-holds = holds f c (ready .few) (storage i m s y e x k) (storage i′ m′ s′ y′ e′ x′ k′) r (ready .sized) loads
 
-    pub is-printed : (image : List ℕ) (q : Patch) (n : ℕ) → Patches BASE m′ x′ 18446744073709551615 0 i′ image q → n ≡ lineTotal f → Printed f image n
+    pub is-printed : (image : List ℕ) (q : Patch) (n : ℕ) → Patches PROGRAM-BASE m′ x′ 18446744073709551615 0 i′ image q → n ≡ lineTotal f → Printed f image n
     is-printed image q n p t =
         record { all = t; patched = image-patched f c (ready .few) (storage i m s y e x k) (storage i′ m′ s′ y′ e′ x′ k′) r (ready .sized) loads image q p }

@@ -29,14 +29,16 @@ use Rattle.patch.specs.Fixes.{fixCount}
 use Rattle.patch.specs.Patch.{portion, patchCode, Patches}
 use Rattle.load.specs.declared.answer.Load.{Load}
 use Rattle.load.specs.declared.answer.Load.the-variants.{Loaded}
-use Rattle.load.specs.Load.{Storage, layoutRoom, listsRoom, roomOk, storedBy, stored, loadChecks, loadAnswer, Loads}
+use Rattle.plan.specs.Plan.{layoutRoom, listsRoom}
+use Rattle.storage.specs.Storage.{Storage, storedBy, stored}
+use Rattle.load.specs.Load.{roomOk, loadChecks, loadAnswer, Loads}
 use Rattle.load.specs.LoadLaws.{load-accepts, load-leaves}
 use Rattle.demands.specs.Calls.{afterCalls}
 use Rattle.demands.specs.Origin.{fixupsOf, slotsOf}
 use Rattle.demands.specs.Counted.{pagesOf, imageOf, marksOf, sectionsOf, externsOf, fixTableOf}
 use Rattle.demands.specs.Demand3.{AtBase, demand-3}
 use Rattle.demands.specs.Loaded.{Lends, load-lends}
-use Rattle.program.specs.Output.{BASE, symbolsOf, skipTableOf, lineOf, lineTotal, patchedImage}
+use Rattle.program.specs.Output.{PROGRAM-BASE, symbolsOf, skipTableOf, lineOf, lineTotal, patchedImage}
 use Rattle.program.specs.Within.{Within}
 
 -- room for the longest line, which has a name as long as the file
@@ -58,17 +60,18 @@ pub record Sized (c : Counts) (s : Storage) : Type 0 where
   pub fixups : length (s .fixups) ≡ FIXUP-BYTES * c .fixups
   pub skips : length (s .skips) ≡ SKIP-BYTES * c .skips
 
+-- what the program has before it loads: a file whose lines are printed, and buffers of those sizes
 pub record Ready (f : List ℕ) (c : Counts) (s : Storage) : Type 0 where
   pub few : Within f c
   pub sized : Sized c s
 
 -- the file's lines are to be printed, and the tables are load's
-pub record Holds (f : List ℕ) (c : Counts) (sections symbols externs fixups skips : List ℕ) : Type 0 where
+pub record HoldsTables (f : List ℕ) (c : Counts) (sections symbols externs fixups skips : List ℕ) : Type 0 where
   pub few : Within f c
-  pub section-table : sections ≡ sectionsOf f BASE
+  pub section-table : sections ≡ sectionsOf f PROGRAM-BASE
   pub symbol-table : symbols ≡ symbolsOf f
-  pub extern-table : externs ≡ externsOf f BASE
-  pub fixup-table : fixups ≡ fixTableOf f BASE
+  pub extern-table : externs ≡ externsOf f PROGRAM-BASE
+  pub fixup-table : fixups ≡ fixTableOf f PROGRAM-BASE
   pub skip-table : skips ≡ skipTableOf f
 
 -- THE PROMISE: all lines are written, and the image has every fixup applied
@@ -112,7 +115,7 @@ whole : (b t : List ℕ) (n : ℕ) → length b ≡ n → part b 0 n ≡ t → b
 unfolding part
 whole b t n e q = sym (take-all n b (omega arith)) ∙ q
 
-base-good : baseOk BASE ≡ true
+base-good : baseOk PROGRAM-BASE ≡ true
 unfolding baseOk
 base-good = refl
 
@@ -123,81 +126,81 @@ module _ (f : List ℕ) (c : Counts) (few : Within f c) where
   are : counts f (headerOf f) ≡ c
   are = counts-are f c (few .accepted)
 
-  at : AtBase f BASE []
-  at = demand-3 f c (few .accepted) BASE BASE base-good base-good [] .one
+  at : AtBase f PROGRAM-BASE []
+  at = demand-3 f c (few .accepted) PROGRAM-BASE PROGRAM-BASE base-good base-good [] .one
 
-  laid-long : (i : List ℕ) → length (laidImage f (headerOf f) BASE (slotsOf f) i) ≡ length i
-  laid-long i = length-laid f (headerOf f) (startsTo f (headerOf f) (headerOf f .sections)) (pagesOf f) BASE (undefStart f (headerOf f)) (slotsOf f) i
+  laid-long : (i : List ℕ) → length (laidImage f (headerOf f) PROGRAM-BASE (slotsOf f) i) ≡ length i
+  laid-long i = length-laid f (headerOf f) (startsTo f (headerOf f) (headerOf f .sections)) (pagesOf f) PROGRAM-BASE (undefStart f (headerOf f)) (slotsOf f) i
 
   -- one call that asks for all fixups is not refused, and applies them all
-  count-low : fixCount (fixTableOf f BASE) ≤ 18446744073709551615
+  count-low : fixCount (fixTableOf f PROGRAM-BASE) ≤ 18446744073709551615
   count-low =
       let a = at .count in
       let b = fixups-listed f c (few .accepted) in
       let d = few .fixups in
       omega arith
 
-  not-refused : patchCode (length (imageOf f BASE)) (marksOf f) BASE (fixTableOf f BASE) 18446744073709551615 0 ≡ 0
+  not-refused : patchCode (length (imageOf f PROGRAM-BASE)) (marksOf f) PROGRAM-BASE (fixTableOf f PROGRAM-BASE) 18446744073709551615 0 ≡ 0
   unfolding afterCalls pick
   not-refused = rw (at .long) (at .refused 18446744073709551615 0 ∙ rw (le-leb 0 (length (fixupsOf f)) (omega arith)))
 
-  patched-all : (image marks fixes image′ : List ℕ) (q : Patch) → image ≡ imageOf f BASE → marks ≡ marksOf f → fixes ≡ fixTableOf f BASE
-      → Patches BASE marks fixes 18446744073709551615 0 image image′ q → image′ ≡ patchedImage f
+  patched-all : (image marks fixes image′ : List ℕ) (q : Patch) → image ≡ imageOf f PROGRAM-BASE → marks ≡ marksOf f → fixes ≡ fixTableOf f PROGRAM-BASE
+      → Patches PROGRAM-BASE marks fixes 18446744073709551615 0 image image′ q → image′ ≡ patchedImage f
   unfolding unlessRefused
   patched-all image marks fixes image′ q a b d p =
-      let z : portion (fixCount (fixTableOf f BASE)) 18446744073709551615 0 ≡ fixCount (fixTableOf f BASE) = let l = count-low in omega arith in
+      let z : portion (fixCount (fixTableOf f PROGRAM-BASE)) 18446744073709551615 0 ≡ fixCount (fixTableOf f PROGRAM-BASE) = let l = count-low in omega arith in
       let e = rw (a, b, d, not-refused, z) at (p .leaves) in
       e
 
-  module _ (s s′ : Storage) (r : Load) (sized : Sized c s) (loads : Loads f BASE s s′ r) where
+  module _ (s s′ : Storage) (r : Load) (sized : Sized c s) (loads : Loads f PROGRAM-BASE s s′ r) where
     has-room : firstFailed (check (roomOk (counts f (headerOf f)) s) STORAGE ∷ []) ≡ 0
     unfolding firstFailed
     has-room = check-passes (roomOk (counts f (headerOf f)) s) STORAGE [] (rw are (room c s sized)) refl
 
-    code : firstFailed (loadChecks f (headerOf f) BASE s) ≡ 0
+    code : firstFailed (loadChecks f (headerOf f) PROGRAM-BASE s) ≡ 0
     code =
-        check-passes (baseOk BASE) refusal.BASE (checks f (headerOf f) ++ (check (roomOk (counts f (headerOf f)) s) STORAGE ∷ [])) base-good
+        check-passes (baseOk PROGRAM-BASE) refusal.BASE (checks f (headerOf f) ++ (check (roomOk (counts f (headerOf f)) s) STORAGE ∷ [])) base-good
         (none-fails (checks f (headerOf f)) (check (roomOk (counts f (headerOf f)) s) STORAGE ∷ []) passes has-room)
 
-    loaded : Loads f BASE s s′ (Loaded c)
+    loaded : Loads f PROGRAM-BASE s s′ (Loaded c)
     unfolding loadAnswer pick
     loaded = record { says = rw (code, are); leaves = loads .leaves }
 
-    lends : Lends f BASE s′ c
-    lends = load-lends f BASE s s′ c loaded
+    lends : Lends f PROGRAM-BASE s′ c
+    lends = load-lends f PROGRAM-BASE s s′ c loaded
 
-    leaves : s′ ≡ stored f (headerOf f) BASE s
-    leaves = load-accepts f BASE s s′ c loaded .leaves
+    leaves : s′ ≡ stored f (headerOf f) PROGRAM-BASE s
+    leaves = load-accepts f PROGRAM-BASE s s′ c loaded .leaves
 
-    sections-are : s′ .sections ≡ sectionsOf f BASE
+    sections-are : s′ .sections ≡ sectionsOf f PROGRAM-BASE
     unfolding storedBy
-    sections-are = whole _ _ _ (ap (λ (z : Storage). length (z .sections)) leaves ∙ length-splice (s .sections) 0 (sectionsOf f BASE) ∙ sized .sections) (lends .sections)
+    sections-are = whole _ _ _ (ap (λ (z : Storage). length (z .sections)) leaves ∙ length-splice (s .sections) 0 (sectionsOf f PROGRAM-BASE) ∙ sized .sections) (lends .sections)
 
     symbols-are : s′ .symbols ≡ symbolsOf f
     unfolding storedBy
-    symbols-are = whole _ _ _ (ap (λ (z : Storage). length (z .symbols)) leaves ∙ length-splice (s .symbols) 0 (symbolsOf f) ∙ sized .symbols) (load-leaves f BASE s s′ c loaded .symbols .counted)
+    symbols-are = whole _ _ _ (ap (λ (z : Storage). length (z .symbols)) leaves ∙ length-splice (s .symbols) 0 (symbolsOf f) ∙ sized .symbols) (load-leaves f PROGRAM-BASE s s′ c loaded .symbols .counted)
 
-    externs-are : s′ .externs ≡ externsOf f BASE
+    externs-are : s′ .externs ≡ externsOf f PROGRAM-BASE
     unfolding storedBy
-    externs-are = whole _ _ _ (ap (λ (z : Storage). length (z .externs)) leaves ∙ length-splice (s .externs) 0 (externsOf f BASE) ∙ sized .externs) (lends .externs)
+    externs-are = whole _ _ _ (ap (λ (z : Storage). length (z .externs)) leaves ∙ length-splice (s .externs) 0 (externsOf f PROGRAM-BASE) ∙ sized .externs) (lends .externs)
 
-    fixups-are : s′ .fixups ≡ fixTableOf f BASE
+    fixups-are : s′ .fixups ≡ fixTableOf f PROGRAM-BASE
     unfolding storedBy
-    fixups-are = whole _ _ _ (ap (λ (z : Storage). length (z .fixups)) leaves ∙ length-splice (s .fixups) 0 (fixTableOf f BASE) ∙ sized .fixups) (lends .fixes)
+    fixups-are = whole _ _ _ (ap (λ (z : Storage). length (z .fixups)) leaves ∙ length-splice (s .fixups) 0 (fixTableOf f PROGRAM-BASE) ∙ sized .fixups) (lends .fixes)
 
     skips-are : s′ .skips ≡ skipTableOf f
     unfolding storedBy
-    skips-are = whole _ _ _ (ap (λ (z : Storage). length (z .skips)) leaves ∙ length-splice (s .skips) 0 (skipTableOf f) ∙ sized .skips) (load-leaves f BASE s s′ c loaded .skips .counted)
+    skips-are = whole _ _ _ (ap (λ (z : Storage). length (z .skips)) leaves ∙ length-splice (s .skips) 0 (skipTableOf f) ∙ sized .skips) (load-leaves f PROGRAM-BASE s s′ c loaded .skips .counted)
 
     marks-are : s′ .marks ≡ marksOf f
     unfolding storedBy
     marks-are = whole _ _ _ (ap (λ (z : Storage). length (z .marks)) leaves ∙ length-splice (s .marks) 0 (marksOf f) ∙ sized .marks) (lends .marks)
 
-    image-is : s′ .image ≡ imageOf f BASE
+    image-is : s′ .image ≡ imageOf f PROGRAM-BASE
     unfolding storedBy
     image-is = whole _ _ _ (ap (λ (z : Storage). length (z .image)) leaves ∙ laid-long (s .image) ∙ sized .image) (lends .image)
 
-    pub holds : Holds f c (s′ .sections) (s′ .symbols) (s′ .externs) (s′ .fixups) (s′ .skips)
+    pub holds : HoldsTables f c (s′ .sections) (s′ .symbols) (s′ .externs) (s′ .fixups) (s′ .skips)
     holds =
         record {
           few = few;
@@ -208,5 +211,5 @@ module _ (f : List ℕ) (c : Counts) (few : Within f c) where
           skip-table = skips-are;
         }
 
-    pub image-patched : (image : List ℕ) (q : Patch) → Patches BASE (s′ .marks) (s′ .fixups) 18446744073709551615 0 (s′ .image) image q → image ≡ patchedImage f
+    pub image-patched : (image : List ℕ) (q : Patch) → Patches PROGRAM-BASE (s′ .marks) (s′ .fixups) 18446744073709551615 0 (s′ .image) image q → image ≡ patchedImage f
     image-patched image q p = patched-all (s′ .image) (s′ .marks) (s′ .fixups) image q image-is marks-are fixups-are p

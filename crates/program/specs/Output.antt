@@ -17,13 +17,14 @@ use Rattle.verdict.specs.declared.answer.Verdict.the-variants.{TooLarge, Refuse
 use Rattle.verdict.specs.Verdict.{verdictOf}
 
 -- where it loads
-abbrev pub BASE : ℕ
-BASE = 0x20000000
+abbrev pub PROGRAM-BASE : ℕ
+PROGRAM-BASE = 0x20000000
 
--- the tables of symbols and of skips that load writes there; the other three are of `demands`
+-- the table of symbols that load writes there; sections, extern names and fixups are of `demands`
 abbrev pub symbolsOf : List ℕ → List ℕ
-symbolsOf f = symbolTable f (headerOf f) BASE (sectionHome f (headerOf f)) (homeRecords f (headerOf f) (headerOf f .sections))
+symbolsOf f = symbolTable f (headerOf f) PROGRAM-BASE (sectionHome f (headerOf f)) (homeRecords f (headerOf f) (headerOf f .sections))
 
+-- and that of skips
 abbrev pub skipTableOf : List ℕ → List ℕ
 skipTableOf f = skipTable (outcomes f (headerOf f)) (relocationCount f (headerOf f)) (headerOf f .sections)
 
@@ -31,15 +32,16 @@ skipTableOf f = skipTable (outcomes f (headerOf f)) (relocationCount f (headerOf
 abbrev pub linesBy : List ℕ → Verdict → List (List ℕ)
 linesBy f TooLarge = tooLargeLine ∷ []
 linesBy f (Refused n) = refusedLine n ∷ []
-linesBy f (Lines c) = listing f BASE c (sectionsOf f BASE) (symbolsOf f) (externsOf f BASE) (fixTableOf f BASE) (skipTableOf f)
+linesBy f (Lines c) = listing f PROGRAM-BASE c (sectionsOf f PROGRAM-BASE) (symbolsOf f) (externsOf f PROGRAM-BASE) (fixTableOf f PROGRAM-BASE) (skipTableOf f)
 
--- line k, from 0, and how many there are
+-- line k, from 0
 unfoldable pub lineOf : List ℕ → ℕ → List ℕ
 lineOf f k = getD (linesBy f (verdictOf f)) k []
 
+-- how many there are
 unfoldable pub lineTotal : List ℕ → ℕ
 lineTotal f = length (linesBy f (verdictOf f))
 
 -- the image of the load with every fixup of the list applied, in list order
 abbrev pub patchedImage : List ℕ → List ℕ
-patchedImage f = fixedFrom BASE (fixTableOf f BASE) (imageOf f BASE) 0 (fixCount (fixTableOf f BASE))
+patchedImage f = fixedFrom PROGRAM-BASE (fixTableOf f PROGRAM-BASE) (imageOf f PROGRAM-BASE) 0 (fixCount (fixTableOf f PROGRAM-BASE))

@@ -43,17 +43,18 @@ use Rattle.survey.specs.Acceptance.{counts-are, fixups-listed, skips-listed}
 use Rattle.demands.specs.Counted.{sectionsOf, externsOf, fixTableOf}
 use Rattle.demands.specs.Origin.{fixupsOf, noFixup, fixupAt, fixupPlace, fixupValue, slotValue}
 use Rattle.lines.specs.Lines.{sectionLine, symbolLine, externLine, fixLine, skipLine, skippedLine}
-use Rattle.listing.specs.Listing.{sectionTitle, sectionAt, symbolAt, externAt, fixAt, skipAt, fromSymbols, fromExterns, fromFixups, fromSkips}
+use Rattle.listing.specs.Listing.{sectionTitle, sectionLineAt, symbolLineAt, externLineAt, fixLineAt, skipLineAt, fromSymbols, fromExterns, fromFixups, fromSkips}
 use Rattle.listing.specs.ListingLaws.{at-row}
 use Rattle.verdict.specs.declared.answer.Verdict.the-variants.{Lines}
 use Rattle.verdict.specs.Verdict.{verdictOf}
-use Rattle.program.specs.Output.{BASE, symbolsOf, skipTableOf, lineOf}
+use Rattle.program.specs.Output.{PROGRAM-BASE, symbolsOf, skipTableOf, lineOf}
 use Rattle.program.specs.Within.{Within, within}
 
--- a word of a record has 64 bits, and a name is the part of the file that its two words say
+-- a word of a record has 64 bits
 abbrev pub low : ℕ → ℕ
 low n = n % 2 ^ 64
 
+-- a name is the part of the file that its two words say
 abbrev pub nameAt : List ℕ → Name → List ℕ
 nameAt f name = part f (low (nameStart name)) (low (nameLength name))
 
@@ -103,21 +104,21 @@ module _ (f : List ℕ) (c : Counts) (is : verdictOf f ≡ Lines c) where
   file-sections = ap (λ (k : Counts). k .«file_sections») (sym (counts-are f c (few .accepted)))
 
   -- ---- a loaded section, by its place among the loaded ones
-  section-at : (k : ℕ) → k < c .sections → lineOf f (suc k) ≡ sectionAt f (sectionsOf f BASE) k
+  section-at : (k : ℕ) → k < c .sections → lineOf f (suc k) ≡ sectionLineAt f (sectionsOf f PROGRAM-BASE) k
   unfolding lineOf
-  section-at k q = rw is (at-row (sectionAt f (sectionsOf f BASE)) (fromSymbols f c (symbolsOf f) (externsOf f BASE) (fixTableOf f BASE) (skipTableOf f)) (c .sections) k q)
+  section-at k q = rw is (at-row (sectionLineAt f (sectionsOf f PROGRAM-BASE)) (fromSymbols f c (symbolsOf f) (externsOf f PROGRAM-BASE) (fixTableOf f PROGRAM-BASE) (skipTableOf f)) (c .sections) k q)
 
   section-word : (i : ℕ) → i < h .sections → loaded f h i ≡ true → (w : ℕ) → w < 8
-      → wordOf 8 (sectionsOf f BASE) (recordOf f h i) w ≡ low (getD (sectionWords f h BASE starts i) w 0)
+      → wordOf 8 (sectionsOf f PROGRAM-BASE) (recordOf f h i) w ≡ low (getD (sectionWords f h PROGRAM-BASE starts i) w 0)
   section-word i n t w q =
-      rw (splice-self (sectionsOf f BASE)) at
-      (section-of-load f h BASE starts (undefStart f h) (sectionsOf f BASE)
-      (let z = sections-fill f h BASE starts (undefStart f h) in omega arith) w q i n t)
+      rw (splice-self (sectionsOf f PROGRAM-BASE)) at
+      (section-of-load f h PROGRAM-BASE starts (undefStart f h) (sectionsOf f PROGRAM-BASE)
+      (let z = sections-fill f h PROGRAM-BASE starts (undefStart f h) in omega arith) w q i n t)
 
   pub section-said : (i : ℕ) → i < h .sections → loaded f h i ≡ true
       → lineOf f (suc (recordOf f h i))
-      ≡ sectionLine (low (BASE + getD starts i 0)) (low (BASE + getD starts i 0 + rangeLength f h i)) (low (fileStart f h i)) (low (fileEnd f h i)) (low (permissions f h i)) (nameAt f (sectionName f h i))
-  unfolding sectionAt sectionTitle sectionWords pick
+      ≡ sectionLine (low (PROGRAM-BASE + getD starts i 0)) (low (PROGRAM-BASE + getD starts i 0 + rangeLength f h i)) (low (fileStart f h i)) (low (fileEnd f h i)) (low (permissions f h i)) (nameAt f (sectionName f h i))
+  unfolding sectionLineAt sectionTitle sectionWords pick
   section-said i n t =
       let w = section-word i n t in
       let a = count-below (loaded f h) (h .sections) i n t in
@@ -129,24 +130,24 @@ module _ (f : List ℕ) (c : Counts) (is : verdictOf f ≡ Lines c) where
       ∙ rw (w 0 (omega arith), w 1 (omega arith), w 2 (omega arith), w 3 (omega arith), w 4 (omega arith), w 5 (omega arith), w 6 (omega arith), w 7 (omega arith), z)
 
   -- ---- a listed symbol, behind the sections, by its place among the listed ones
-  symbol-at : (k : ℕ) → k < c .symbols → lineOf f (suc (c .sections + k)) ≡ symbolAt f (symbolsOf f) k
+  symbol-at : (k : ℕ) → k < c .symbols → lineOf f (suc (c .sections + k)) ≡ symbolLineAt f (symbolsOf f) k
   unfolding lineOf
   symbol-at k q =
       rw is
-      (behind (sectionAt f (sectionsOf f BASE)) (c .sections) k (fromSymbols f c (symbolsOf f) (externsOf f BASE) (fixTableOf f BASE) (skipTableOf f))
-      ∙ at-row (symbolAt f (symbolsOf f)) (fromExterns f c (externsOf f BASE) (fixTableOf f BASE) (skipTableOf f)) (c .symbols) k q)
+      (behind (sectionLineAt f (sectionsOf f PROGRAM-BASE)) (c .sections) k (fromSymbols f c (symbolsOf f) (externsOf f PROGRAM-BASE) (fixTableOf f PROGRAM-BASE) (skipTableOf f))
+      ∙ at-row (symbolLineAt f (symbolsOf f)) (fromExterns f c (externsOf f PROGRAM-BASE) (fixTableOf f PROGRAM-BASE) (skipTableOf f)) (c .symbols) k q)
 
   symbol-word : (j : ℕ) → j < h .symbols → listed f h (sectionHome f h) j ≡ true → (w : ℕ) → w < 6
-      → wordOf 6 (symbolsOf f) (countTo (listed f h (sectionHome f h)) j) w ≡ low (getD (symbolWords f h BASE (sectionHome f h) (homeRecords f h (h .sections)) j) w 0)
+      → wordOf 6 (symbolsOf f) (countTo (listed f h (sectionHome f h)) j) w ≡ low (getD (symbolWords f h PROGRAM-BASE (sectionHome f h) (homeRecords f h (h .sections)) j) w 0)
   symbol-word j n t w q =
       rw (splice-self (symbolsOf f)) at
-      (symbol-of-load f h BASE (sectionHome f h) (homeRecords f h (h .sections)) (symbolsOf f)
-      (let z = symbols-fill f h BASE (sectionHome f h) (homeRecords f h (h .sections)) in omega arith) w q j n t)
+      (symbol-of-load f h PROGRAM-BASE (sectionHome f h) (homeRecords f h (h .sections)) (symbolsOf f)
+      (let z = symbols-fill f h PROGRAM-BASE (sectionHome f h) (homeRecords f h (h .sections)) in omega arith) w q j n t)
 
   pub symbol-said : (j : ℕ) → j < h .symbols → listed f h (sectionHome f h) j ≡ true
       → lineOf f (suc (c .sections + countTo (listed f h (sectionHome f h)) j))
-      ≡ symbolLine (low (BASE + listedOffset f h (sectionHome f h) j)) (kind f h j) (nameAt f (symbolName f h j))
-  unfolding symbolAt symbolWords
+      ≡ symbolLine (low (PROGRAM-BASE + listedOffset f h (sectionHome f h) j)) (kind f h j) (nameAt f (symbolName f h j))
+  unfolding symbolLineAt symbolWords
   symbol-said j n t =
       let w = symbol-word j n t in
       let a = count-below (listed f h (sectionHome f h)) (h .symbols) j n t in
@@ -155,64 +156,64 @@ module _ (f : List ℕ) (c : Counts) (is : verdictOf f ≡ Lines c) where
       ∙ rw (w 0 (omega arith), w 1 (omega arith), w 2 (omega arith), w 3 (omega arith), kind-low (kind f h j), kind-is (kind f h j))
 
   -- ---- an extern name, behind the symbols
-  extern-at : (e : ℕ) → e < c .externs → lineOf f (suc (c .sections + (c .symbols + e))) ≡ externAt f (externsOf f BASE) e
+  extern-at : (e : ℕ) → e < c .externs → lineOf f (suc (c .sections + (c .symbols + e))) ≡ externLineAt f (externsOf f PROGRAM-BASE) e
   unfolding lineOf
   extern-at e q =
       rw is
-      (behind (sectionAt f (sectionsOf f BASE)) (c .sections) (c .symbols + e) (fromSymbols f c (symbolsOf f) (externsOf f BASE) (fixTableOf f BASE) (skipTableOf f))
-      ∙ behind (symbolAt f (symbolsOf f)) (c .symbols) e (fromExterns f c (externsOf f BASE) (fixTableOf f BASE) (skipTableOf f))
-      ∙ at-row (externAt f (externsOf f BASE)) (fromFixups c (fixTableOf f BASE) (skipTableOf f)) (c .externs) e q)
+      (behind (sectionLineAt f (sectionsOf f PROGRAM-BASE)) (c .sections) (c .symbols + e) (fromSymbols f c (symbolsOf f) (externsOf f PROGRAM-BASE) (fixTableOf f PROGRAM-BASE) (skipTableOf f))
+      ∙ behind (symbolLineAt f (symbolsOf f)) (c .symbols) e (fromExterns f c (externsOf f PROGRAM-BASE) (fixTableOf f PROGRAM-BASE) (skipTableOf f))
+      ∙ at-row (externLineAt f (externsOf f PROGRAM-BASE)) (fromFixups c (fixTableOf f PROGRAM-BASE) (skipTableOf f)) (c .externs) e q)
 
-  extern-word : (e : ℕ) → e < length (externs f h) → (w : ℕ) → w < 4 → wordOf 4 (externsOf f BASE) e w ≡ low (getD (externWords f h BASE (undefStart f h) (externs f h) e) w 0)
+  extern-word : (e : ℕ) → e < length (externs f h) → (w : ℕ) → w < 4 → wordOf 4 (externsOf f PROGRAM-BASE) e w ≡ low (getD (externWords f h PROGRAM-BASE (undefStart f h) (externs f h) e) w 0)
   extern-word e n w q =
-      rw (splice-self (externsOf f BASE)) at
-      (extern-of-load f h BASE (undefStart f h) (externs f h) (length (externs f h)) e w (externsOf f BASE)
-      (let z = length-externs f h BASE (undefStart f h) (externs f h) (length (externs f h)) in omega arith) n q)
+      rw (splice-self (externsOf f PROGRAM-BASE)) at
+      (extern-of-load f h PROGRAM-BASE (undefStart f h) (externs f h) (length (externs f h)) e w (externsOf f PROGRAM-BASE)
+      (let z = length-externs f h PROGRAM-BASE (undefStart f h) (externs f h) (length (externs f h)) in omega arith) n q)
 
   pub extern-said : (e : ℕ) → e < length (externs f h)
-      → lineOf f (suc (c .sections + (c .symbols + e))) ≡ externLine (low (slotValue f BASE e)) (nameAt f (symbolName f h (getD (externs f h) e 0)))
-  unfolding externAt externWords
+      → lineOf f (suc (c .sections + (c .symbols + e))) ≡ externLine (low (slotValue f PROGRAM-BASE e)) (nameAt f (symbolName f h (getD (externs f h) e 0)))
+  unfolding externLineAt externWords
   extern-said e n =
       let w = extern-word e n in
       let a = externs-are in
       extern-at e (omega arith) ∙ rw (w 0 (omega arith), w 2 (omega arith), w 3 (omega arith))
 
   -- ---- a fixup, behind the extern names
-  fix-at : (k : ℕ) → k < c .fixups → lineOf f (suc (c .sections + (c .symbols + (c .externs + k)))) ≡ fixAt (fixTableOf f BASE) k
+  fix-at : (k : ℕ) → k < c .fixups → lineOf f (suc (c .sections + (c .symbols + (c .externs + k)))) ≡ fixLineAt (fixTableOf f PROGRAM-BASE) k
   unfolding lineOf
   fix-at k q =
       rw is
-      (behind (sectionAt f (sectionsOf f BASE)) (c .sections) (c .symbols + (c .externs + k)) (fromSymbols f c (symbolsOf f) (externsOf f BASE) (fixTableOf f BASE) (skipTableOf f))
-      ∙ behind (symbolAt f (symbolsOf f)) (c .symbols) (c .externs + k) (fromExterns f c (externsOf f BASE) (fixTableOf f BASE) (skipTableOf f))
-      ∙ behind (externAt f (externsOf f BASE)) (c .externs) k (fromFixups c (fixTableOf f BASE) (skipTableOf f))
-      ∙ at-row (fixAt (fixTableOf f BASE)) (fromSkips c (skipTableOf f)) (c .fixups) k q)
+      (behind (sectionLineAt f (sectionsOf f PROGRAM-BASE)) (c .sections) (c .symbols + (c .externs + k)) (fromSymbols f c (symbolsOf f) (externsOf f PROGRAM-BASE) (fixTableOf f PROGRAM-BASE) (skipTableOf f))
+      ∙ behind (symbolLineAt f (symbolsOf f)) (c .symbols) (c .externs + k) (fromExterns f c (externsOf f PROGRAM-BASE) (fixTableOf f PROGRAM-BASE) (skipTableOf f))
+      ∙ behind (externLineAt f (externsOf f PROGRAM-BASE)) (c .externs) k (fromFixups c (fixTableOf f PROGRAM-BASE) (skipTableOf f))
+      ∙ at-row (fixLineAt (fixTableOf f PROGRAM-BASE)) (fromSkips c (skipTableOf f)) (c .fixups) k q)
 
-  fix-word : (k : ℕ) → k < length (fixupsOf f) → (w : ℕ) → w < 3 → wordOf 3 (fixTableOf f BASE) k w ≡ low (getD (fixWords BASE (fixupAt f k)) w 0)
+  fix-word : (k : ℕ) → k < length (fixupsOf f) → (w : ℕ) → w < 3 → wordOf 3 (fixTableOf f PROGRAM-BASE) k w ≡ low (getD (fixWords PROGRAM-BASE (fixupAt f k)) w 0)
   unfolding wordOf
   fix-word k n w q =
-      let l = length-fixes BASE (outcomes f h) (relocationCount f h) (h .sections) in
+      let l = length-fixes PROGRAM-BASE (outcomes f h) (relocationCount f h) (h .sections) in
       let e : 8 * (3 * k + w) ≡ FIXUP-BYTES * k + 8 * w = omega arith in
-      let t = fix-back BASE (outcomes f h) (relocationCount f h) (h .sections) k (fixTableOf f BASE) noFixup (omega arith) n w q in
-      rw e (rw (splice-self (fixTableOf f BASE)) at t)
+      let t = fix-back PROGRAM-BASE (outcomes f h) (relocationCount f h) (h .sections) k (fixTableOf f PROGRAM-BASE) noFixup (omega arith) n w q in
+      rw e (rw (splice-self (fixTableOf f PROGRAM-BASE)) at t)
 
   pub fix-said : (k : ℕ) → k < length (fixupsOf f)
-      → lineOf f (suc (c .sections + (c .symbols + (c .externs + k)))) ≡ fixLine (low (fixupPlace f BASE k)) (low (fixupAt f k .bits)) (low (fixupValue f BASE k))
-  unfolding fixAt fixWords
+      → lineOf f (suc (c .sections + (c .symbols + (c .externs + k)))) ≡ fixLine (low (fixupPlace f PROGRAM-BASE k)) (low (fixupAt f k .bits)) (low (fixupValue f PROGRAM-BASE k))
+  unfolding fixLineAt fixWords
   fix-said k n =
       let w = fix-word k n in
       let a = fixups-listed f c (few .accepted) in
       fix-at k (omega arith) ∙ rw (w 0 (omega arith), w 1 (omega arith), w 2 (omega arith))
 
   -- ---- a skip, behind the fixups
-  skip-at : (k : ℕ) → k < c .skips → lineOf f (suc (c .sections + (c .symbols + (c .externs + (c .fixups + k))))) ≡ skipAt (skipTableOf f) k
+  skip-at : (k : ℕ) → k < c .skips → lineOf f (suc (c .sections + (c .symbols + (c .externs + (c .fixups + k))))) ≡ skipLineAt (skipTableOf f) k
   unfolding lineOf
   skip-at k q =
       rw is
-      (behind (sectionAt f (sectionsOf f BASE)) (c .sections) (c .symbols + (c .externs + (c .fixups + k))) (fromSymbols f c (symbolsOf f) (externsOf f BASE) (fixTableOf f BASE) (skipTableOf f))
-      ∙ behind (symbolAt f (symbolsOf f)) (c .symbols) (c .externs + (c .fixups + k)) (fromExterns f c (externsOf f BASE) (fixTableOf f BASE) (skipTableOf f))
-      ∙ behind (externAt f (externsOf f BASE)) (c .externs) (c .fixups + k) (fromFixups c (fixTableOf f BASE) (skipTableOf f))
-      ∙ behind (fixAt (fixTableOf f BASE)) (c .fixups) k (fromSkips c (skipTableOf f))
-      ∙ at-row (skipAt (skipTableOf f)) (skippedLine (c .skips) (c .passed) ∷ []) (c .skips) k q)
+      (behind (sectionLineAt f (sectionsOf f PROGRAM-BASE)) (c .sections) (c .symbols + (c .externs + (c .fixups + k))) (fromSymbols f c (symbolsOf f) (externsOf f PROGRAM-BASE) (fixTableOf f PROGRAM-BASE) (skipTableOf f))
+      ∙ behind (symbolLineAt f (symbolsOf f)) (c .symbols) (c .externs + (c .fixups + k)) (fromExterns f c (externsOf f PROGRAM-BASE) (fixTableOf f PROGRAM-BASE) (skipTableOf f))
+      ∙ behind (externLineAt f (externsOf f PROGRAM-BASE)) (c .externs) (c .fixups + k) (fromFixups c (fixTableOf f PROGRAM-BASE) (skipTableOf f))
+      ∙ behind (fixLineAt (fixTableOf f PROGRAM-BASE)) (c .fixups) k (fromSkips c (skipTableOf f))
+      ∙ at-row (skipLineAt (skipTableOf f)) (skippedLine (c .skips) (c .passed) ∷ []) (c .skips) k q)
 
   abbrev skips : List SkipAt
   skips = skipList (outcomes f h) (relocationCount f h) (h .sections)
@@ -228,7 +229,7 @@ module _ (f : List ℕ) (c : Counts) (is : verdictOf f ≡ Lines c) where
   pub skip-said : (k : ℕ) (d : SkipAt) → k < length skips
       → lineOf f (suc (c .sections + (c .symbols + (c .externs + (c .fixups + k)))))
       ≡ skipLine (low (getD skips k d .section)) (low (getD skips k d .index)) (low (skipNumber (getD skips k d .reason)))
-  unfolding skipAt skipRow skipWords
+  unfolding skipLineAt skipRow skipWords
   skip-said k d n =
       let w = skip-word k d n in
       let a = skips-listed f c (few .accepted) in

@@ -9,6 +9,7 @@ use lib.ListN.{length}
 use borrow.Author.Tests.{leb-true}
 use Rattle.util.specs.Pick.{pick, and-left, and-right}
 use Rattle.util.specs.Prefix.{sumTo, countTo}
+use Rattle.util.specs.Fold.{foldRecords, foldSections, foldAt, sections-walk}
 use Rattle.object.specs.declared.Header.{Header}
 use Rattle.object.specs.Format.{headerOf}
 use Rattle.object.specs.Section.{loaded, relocationCount}
@@ -18,7 +19,7 @@ use Rattle.names.specs.declared.Order.the-variants.{Less, Equal, Greater}
 use Rattle.homes.specs.Home.{sectionHome}
 use Rattle.homes.specs.Listed.{listed}
 use Rattle.codes.specs.Puts as Puts
-use Rattle.externs.specs.Externs.{orderOf, byOrder, insertName, externRecords, externsTo, externs}
+use Rattle.externs.specs.Externs.{orderOf, byOrder, insertName, externStep, externsTo, externs}
 use Rattle.survey.specs.declared.answer.Counts.{Counts}
 use Rattle.survey.specs.declared.answer.Survey.{Survey}
 use Rattle.survey.specs.declared.answer.Survey.the-variants as survey
@@ -27,6 +28,7 @@ use Rattle.survey.specs.Acceptance.{counts-are, counts-add-up}
 use Rattle.verdict.specs.declared.answer.Verdict.the-variants.{TooLarge, Lines}
 use Rattle.verdict.specs.Verdict.{MOST-BYTES, MOST-PAGES, MOST-SECTIONS, MOST-SYMBOLS, MOST-RELOCATIONS, fits, verdictBy, verdictOf}
 
+-- the verdict is its lines, survey accepts it, and each count is within what the program has room for
 pub record Within (f : List ℕ) (c : Counts) : Type 0 where
   pub verdict : verdictOf f ≡ Lines c
   pub bytes : length f ≤ MOST-BYTES
@@ -63,21 +65,21 @@ insert-one f h j (x ∷ xs) = by-order (orderOf f h j x) (insert-one f h j xs)
     by-order Greater k = omega arith
 
 module _ (f : List ℕ) (h : Header) (puts : ℕ → Bool) where
-  records-most : (i : ℕ) (xs : List ℕ) (k : ℕ) → length (externRecords f h puts i xs k) ≤ length xs + k
-  unfolding externRecords pick
-  records-most i xs zero = omega arith
-  records-most i xs (suc k) = by-put (puts (relocationSymbol f h i k)) (externRecords f h puts i xs k) (records-most i xs k)
+  step-most : (xs : List ℕ) (i k m : ℕ) → length xs ≤ m + k → length (externStep f h puts xs i k) ≤ m + suc k
+  unfolding externStep pick
+  step-most xs i k m q = by-put (puts (relocationSymbol f h i k))
     where
-      by-put : (b : Bool) (ys : List ℕ) → length ys ≤ length xs + k → length (pick b (insertName f h (relocationSymbol f h i k) ys) ys) ≤ length xs + suc k
-      by-put true ys q = let z = insert-one f h (relocationSymbol f h i k) ys in omega arith
-      by-put false ys q = omega arith
+      by-put : (b : Bool) → length (pick b (insertName f h (relocationSymbol f h i k) xs) xs) ≤ m + suc k
+      by-put true = let z = insert-one f h (relocationSymbol f h i k) xs in omega arith
+      by-put false = omega arith
 
   externs-most : (n : ℕ) → length (externsTo f h puts n) ≤ sumTo (relocationCount f h) n
-  unfolding externsTo sumTo
-  externs-most zero = omega arith
-  externs-most (suc n) =
-      let a = externs-most n in
-      let b = records-most n (externsTo f h puts n) (relocationCount f h n) in
+  unfolding foldRecords foldSections sumTo
+  externs-most n =
+      let e =
+      sections-walk (relocationCount f h)
+      (λ i k. length (foldAt (externStep f h puts) (relocationCount f h) [] i k) ≤ sumTo (relocationCount f h) i + k) n (omega arith)
+      (λ i k l q. step-most _ i k (sumTo (relocationCount f h) i)) (λ i e. omega arith) in
       omega arith
 
 -- ---- from the verdict
@@ -123,6 +125,7 @@ module _ (f : List ℕ) (c : Counts) (e : verdictOf f ≡ Lines c) where
   unfolding countsBy
   names-most = rw (← are) (externs-most f h (Puts.puts f h) (h .sections))
 
+  -- what follows from the verdict
   pub within : Within f c
   unfolding fits
   within =

@@ -13,8 +13,8 @@ ghost use Rattle.verdict.specs.declared.answer.Verdict.the-variants as verdicts
 ghost use Rattle.verdict.specs.Verdict.{verdictOf};
 ghost use Rattle.program.specs.Output.{lineTotal};
 ghost use Rattle.program.specs.Within.{Within};
-ghost use Rattle.program.specs.Holding.{Ready, Holds, Printed};
-ghost use Rattle.load.specs.Loading.{storage};
+ghost use Rattle.program.specs.Holding.{Ready, HoldsTables, Printed};
+ghost use Rattle.storage.specs.Storage.{storage};
 
 // Room for a file of one byte more, which is seen to be too large.
 pub const FILE_ROOM: usize = 16385;
@@ -69,7 +69,7 @@ fn list_line(
     skips: &[u8],
     w: Written,
 ) -> Written
-    requires { ⌜ Holds (now f) c (now sections) (now symbols) (now externs) (now fixups) (now skips) ⌝ }
+    requires { ⌜ HoldsTables (now f) c (now sections) (now symbols) (now externs) (now fixups) (now skips) ⌝ }
     requires { ⌜ w .lines < 1000 ⌝ }
     ensures { λ r. ⌜ r .lines ≡ w .lines + 1 ⌝ }
 {
@@ -99,7 +99,7 @@ fn list(
     fixups: &[u8],
     skips: &[u8],
 ) -> Written
-    requires { ⌜ Holds (now f) c (now sections) (now symbols) (now externs) (now fixups) (now skips) ⌝ }
+    requires { ⌜ HoldsTables (now f) c (now sections) (now symbols) (now externs) (now fixups) (now skips) ⌝ }
     ensures { λ r. ⌜ r .lines ≡ lineTotal (now (f .entry)) ⌝ }
 {
     let n = listing::line_count(c);

@@ -3,6 +3,7 @@ ghost use mathlib.Core.Path.{_≡_};
 ghost use Prim.Native.Nat.{_+_};
 ghost use Rattle.program.specs.Holding.{Said};
 
+// Its field is private: a count comes from `none` and `say` alone.
 pub struct Written {
     lines: u32,
 }

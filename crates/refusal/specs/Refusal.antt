@@ -22,80 +22,92 @@ unlessRefused zero new old = new
 unlessRefused (suc k) new old = old
 
 -- ---- the numbers (01, "The operations and what they turn down")
--- survey: of the file and its tables
+-- survey: the file is shorter than a header or longer than the limit
 abbrev pub FILE-SIZE : ℕ
 FILE-SIZE = 1
 
+-- the machine is neither i386 nor x64
 abbrev pub MACHINE : ℕ
 MACHINE = 2
 
+-- too many sections, or their table does not lie in the file
 abbrev pub SECTION-TABLE : ℕ
 SECTION-TABLE = 3
 
+-- too many symbol records, an auxiliary record past their end, the symbols or strings not in the file, or a string length under 4
 abbrev pub SYMBOL-TABLE : ℕ
 SYMBOL-TABLE = 4
 
--- of its records
+-- a loaded section has a virtual address or bytes past the file, relocations lie past the file or their extended count is 0, or there are too many
 abbrev pub SECTION-DATA : ℕ
 SECTION-DATA = 5
 
+-- a section's or symbol's name has a byte or a form that is not allowed, or does not end in the string table
 abbrev pub NAME : ℕ
 NAME = 6
 
+-- a symbol's section number is above the file's count
 abbrev pub SECTION-NUMBER : ℕ
 SECTION-NUMBER = 7
 
--- of the layout, the extern names and the relocations
+-- more mapped pages than MAX-PAGES
 abbrev pub PAGES : ℕ
 PAGES = 8
 
+-- more extern names than MAX-EXTERNS
 abbrev pub EXTERNS : ℕ
 EXTERNS = 9
 
+-- a relocation names an auxiliary record or a symbol whose kind and place have no target, or its type is not carried
 abbrev pub TARGET : ℕ
 TARGET = 10
 
--- of a fixup's place
+-- a fixup has a byte outside the mapped pages
 abbrev pub PLACE : ℕ
 PLACE = 11
 
--- load
+-- load: the base is no page multiple, or above the highest
 abbrev pub BASE : ℕ
 BASE = 12
 
+-- a lent buffer is too short; of later calls also an image that is no page multiple, or too few marks
 abbrev pub STORAGE : ℕ
 STORAGE = 13
 
--- patch
+-- patch: the position is above the list's count
 abbrev pub POSITION : ℕ
 POSITION = 14
 
--- read, write and the page writes
+-- read, write, patch and the page writes: an address, fixup or page that is not mapped or not lent, or a fixup of an unknown width
 abbrev pub NOT-MAPPED : ℕ
 NOT-MAPPED = 15
 
+-- a page write, an empty map or a padded write does not start on a page
 abbrev pub NOT-ON-A-PAGE : ℕ
 NOT-ON-A-PAGE = 16
 
+-- a page write or an empty map is not of whole pages
 abbrev pub NOT-WHOLE-PAGES : ℕ
 NOT-WHOLE-PAGES = 17
 
--- write
+-- write: more than a page of bytes
 abbrev pub TOO-LONG : ℕ
 TOO-LONG = 18
 
--- questions to the tables
+-- questions to the tables: no section holds the address or the file offset
 abbrev pub NO-SECTION : ℕ
 NO-SECTION = 19
 
+-- no record has that name, address or number
 abbrev pub NO-ENTRY : ℕ
 NO-ENTRY = 20
 
--- What an operation says and leaves that writes one lent buffer, or two: `code` is the definition's, and on a refusal nothing has changed.
+-- what an operation says and leaves that writes one lent buffer: `code` is the definition's, and on a refusal nothing has changed
 pub record Leaves {A : Type 0} (code : ℕ) (old new at-exit : A) (r : Answer) : Type 0 where
   pub says : r ≡ doneOf code
   pub leaves : at-exit ≡ unlessRefused code new old
 
+-- the same of one that writes two
 pub record LeavesBoth {A B : Type 0} (code : ℕ) (old new at-exit : A) (old₂ new₂ at-exit₂ : B) (r : Answer) : Type 0 where
   pub says : r ≡ doneOf code
   pub leaves : at-exit ≡ unlessRefused code new old

@@ -5,9 +5,11 @@ use Prim.Native.Nat.{ℕ}
 use Rattle.util.specs.Pick.{pick}
 use Rattle.survey.specs.declared.answer.Counts.{Counts}
 
+-- the ten counts, a word each
 abbrev pub COUNTS-BYTES : ℕ
 COUNTS-BYTES = 80
 
+-- the counts in their order in the buffer
 abbrev pub countsWords : Counts → List ℕ
 countsWords c =
     c .pages
@@ -22,9 +24,10 @@ countsWords c =
     ∷ c .relocations
     ∷ []
 
--- where a portion of fixups ended, and 1 if the list ends there, else 0
+-- the two words that patch tells
 abbrev pub PROGRESS-BYTES : ℕ
 PROGRESS-BYTES = 16
 
+-- where a portion of fixups ended, and 1 if the list ends there, else 0
 abbrev pub progressWords : ℕ → Bool → List ℕ
 progressWords position done = position ∷ pick done 1 0 ∷ []

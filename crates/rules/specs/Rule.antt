@@ -1,11 +1,21 @@
 -- What is looked for when a relocation names a symbol, by the symbol's kind and place (01, "Layout, slots and fixups" and refusal 10). Which
 -- names are put among the externs and what a target is are both read off this grid.
+use Prim.Native.Nat.{ℕ}
+use Rattle.refusal.specs.Refusal.{TARGET}
 use Rattle.kinds.specs.declared.SymbolKind.{SymbolKind}
 use Rattle.kinds.specs.declared.SymbolKind.the-variants as kinds
 use Rattle.kinds.specs.declared.Place.{Place}
 use Rattle.kinds.specs.declared.Place.the-variants.{In, Undefined, Common, Absolute, Nowhere, Other}
 use Rattle.rules.specs.declared.Rule.{Rule}
 use Rattle.rules.specs.declared.Rule.the-variants.{Section, Extern, Slot, Name, Refused}
+
+-- the refusal of each case (01, "Survey"), 0 where there is none
+abbrev pub ruleRefusal : Rule → ℕ
+ruleRefusal (Section n) = 0
+ruleRefusal Extern = 0
+ruleRefusal Slot = 0
+ruleRefusal Name = 0
+ruleRefusal Refused = TARGET
 
 -- data and text: in a section, its home; undefined, common or of unknown place, a slot for the name; absolute is refused. Nowhere is a place
 -- of class 103 alone, which is a file's

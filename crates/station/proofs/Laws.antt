@@ -21,7 +21,8 @@ use Rattle.survey.specs.Survey.{Check, check, firstFailed, checks, counts, answ
 use Rattle.results.specs.Results.{COUNTS-BYTES, countsWords, PROGRESS-BYTES, progressWords}
 use Rattle.load.specs.declared.answer.Load.{Load}
 use Rattle.load.specs.declared.answer.Load.the-variants as load
-use Rattle.load.specs.Load.{Storage, roomOk, stored, loadChecks, loadAnswer, Loads}
+use Rattle.storage.specs.Storage.{Storage, stored}
+use Rattle.load.specs.Load.{roomOk, loadChecks, loadAnswer, Loads}
 use Rattle.patch.specs.declared.answer.Progress.{Progress}
 use Rattle.patch.specs.declared.answer.Patch.{Patch}
 use Rattle.patch.specs.declared.answer.Patch.the-variants as patch

@@ -18,7 +18,8 @@ use Rattle.words.specs.Words.{wordBytes}
 use Rattle.results.specs.Results.{COUNTS-BYTES, countsWords, PROGRESS-BYTES, progressWords}
 use Rattle.load.specs.declared.answer.Load.{Load}
 use Rattle.load.specs.declared.answer.Load.the-variants as load
-use Rattle.load.specs.Load.{Storage, loadChecks, stored}
+use Rattle.storage.specs.Storage.{Storage, stored}
+use Rattle.load.specs.Load.{loadChecks}
 use Rattle.patch.specs.declared.answer.Patch.{Patch}
 use Rattle.patch.specs.declared.answer.Patch.the-variants as patch
 use Rattle.patch.specs.Fixes.{fixCount, fixedFrom}
@@ -35,14 +36,16 @@ abbrev pub patchCodeWith : ℕ → List ℕ → ℕ → List ℕ → ℕ → ℕ
 patchCodeWith size marks base fixes number position out =
     pick (leb position (fixCount fixes)) (pick (leb PROGRESS-BYTES (length out)) (patchCode size marks base fixes number position) STORAGE) POSITION
 
+-- the buffer with words at its front
 abbrev pub toldIn : List ℕ → List ℕ → List ℕ
 toldIn out words = splice out 0 (wordBytes words)
 
--- the answer is the code; a lent buffer holds the new contents, or on a refusal what it held before. With one such buffer, and with two things lent
+-- the answer is the code; a lent buffer holds the new contents, or on a refusal what it held before
 pub record Told {A : Type 0} (code : ℕ) (new old at-exit : A) (r : ℕ) : Type 0 where
   pub says : r ≡ code
   pub leaves : at-exit ≡ unlessRefused code new old
 
+-- the same with two things lent
 pub record ToldBoth {A B : Type 0} (code : ℕ) (new old at-exit : A) (new₂ old₂ at-exit₂ : B) (r : ℕ) : Type 0 where
   pub says : r ≡ code
   pub leaves : at-exit ≡ unlessRefused code new old
@@ -66,10 +69,11 @@ Loaded f base s s′ out out′ r =
     out′
     r
 
--- patch: the image, the position behind the portion and whether it is the list's end
+-- the position behind a portion
 abbrev pub portionEnd : List ℕ → ℕ → ℕ → ℕ
 portionEnd fixes number position = position + portion (fixCount fixes) number position
 
+-- patch: the image, that position and whether it is the list's end
 abbrev pub Patched : ℕ → List ℕ → List ℕ → ℕ → ℕ → List ℕ → List ℕ → List ℕ → List ℕ → ℕ → Type 0
 Patched base marks fixes number position image image′ out out′ r =
     ToldBoth
@@ -102,22 +106,27 @@ unfoldable pub surveyCode : Survey → List ℕ → ℕ
 surveyCode (survey.Accepted c) out = pick (leb COUNTS-BYTES (length out)) 0 STORAGE
 surveyCode (survey.Refused n) out = n
 
+-- the buffer then: the counts where they are told, else what it held
 unfoldable pub countsIn : Survey → List ℕ → List ℕ
 countsIn (survey.Accepted c) out = pick (leb COUNTS-BYTES (length out)) (toldIn out (countsWords c)) out
 countsIn (survey.Refused n) out = out
 
+-- what the host is told of a survey's or a load's answer
 pub record CountsTold (answer : Survey) (out out′ : List ℕ) (r : ℕ) : Type 0 where
   pub says : r ≡ surveyCode answer out
   pub result : out′ ≡ countsIn answer out
 
--- without room for its counts, load: 12; 1 to 11; 13
+-- ---- load without room for its counts
+-- survey's refusal, else 13
 unfoldable pub untold : Survey → ℕ
 untold (survey.Accepted c) = STORAGE
 untold (survey.Refused n) = n
 
+-- the same, by the file
 abbrev pub unstoredCode : List ℕ → ℕ
 unstoredCode f = untold (surveyOf f)
 
+-- 12 comes before those
 abbrev pub unlaidCode : List ℕ → ℕ → ℕ
 unlaidCode f base = pick (baseOk base) (unstoredCode f) BASE
 
@@ -125,15 +134,17 @@ unlaidCode f base = pick (baseOk base) (unstoredCode f) BASE
 abbrev pub untoldPatchCode : List ℕ → ℕ → ℕ
 untoldPatchCode fixes position = pick (leb position (fixCount fixes)) STORAGE POSITION
 
--- patch's answer, told
+-- 0, or patch's refusal
 unfoldable pub patchAnswerCode : Patch → ℕ
 patchAnswerCode (patch.Applied p) = 0
 patchAnswerCode (patch.Refused n) = n
 
+-- the buffer then: how far patch came, or what it held
 unfoldable pub progressIn : Patch → List ℕ → List ℕ
 progressIn (patch.Applied p) out = toldIn out (progressWords (p .position) (p .done))
 progressIn (patch.Refused n) out = out
 
+-- what the host is told of a patch's answer
 pub record ProgressTold (answer : Patch) (out out′ : List ℕ) (r : ℕ) : Type 0 where
   pub says : r ≡ patchAnswerCode answer
   pub result : out′ ≡ progressIn answer out

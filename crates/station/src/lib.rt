@@ -7,7 +7,7 @@ use patch::Patch;
 use refusal::Answer;
 use survey::Survey;
 ghost use mathlib.Core.Path.{_≡_};
-ghost use Rattle.load.specs.Loading.{storage};
+ghost use Rattle.storage.specs.Storage.{storage};
 ghost use Rattle.station.specs.Station.{
   asSurvey,
   CountsTold,
@@ -22,8 +22,10 @@ ghost use Rattle.station.specs.Station.{
   Read,
 };
 
+// The ten words of survey's and load's counts.
 pub const COUNTS_BYTES: usize = 80;
 
+// The two words of patch: the position behind the portion, and 1 where the list ends there.
 pub const PROGRESS_BYTES: usize = 16;
 
 fn tell_counts(answer: Survey, out: &mut [u8]) -> u64

@@ -19,10 +19,11 @@ use Rattle.stops.specs.Stops.{strings, stopBy}
 unfoldable pub mayEnd : List ℕ → ℕ → Bool → ℕ → ℕ → Bool
 mayEnd t n empty o s = leb LENGTH-SIZE o && (ltb s n && (eqb (getD t s 0) 0 && (ltb o s || (empty && eqb o s))))
 
--- the long name at offset o whose visible bytes end at s, and by the noted stops
+-- the long name at offset o whose visible bytes end at s
 abbrev pub longTo : List ℕ → Header → Bool → ℕ → ℕ → Name
 longTo f h empty o s = pick (mayEnd (strings f h) (stringLength f h) empty o s) (Good (stringTable h + o) (s - o)) Bad
 
+-- the same, with s by the noted stops
 abbrev pub longBy : List ℕ → Header → List ℕ → Bool → ℕ → Name
 longBy f h stops empty o = longTo f h empty o (stopBy (strings f h) stops o)
 
@@ -30,11 +31,12 @@ longBy f h stops empty o = longTo f h empty o (stopBy (strings f h) stops o)
 unfoldable pub symbolNameBy : List ℕ → Header → List ℕ → ℕ → Name
 symbolNameBy f h stops j = pick (eqb (get 4 f (symbolRecordAt h j)) 0) (longBy f h stops false (get 4 f (symbolRecordAt h j + 4))) (symbolName f h j)
 
--- a section's that begins with a slash, by its digits; the name of section i
+-- a section's that begins with a slash, by its digits
 unfoldable pub slashNameBy : List ℕ → Header → List ℕ → Digits → Name
 slashNameBy f h stops (digits.Offset o) = longBy f h stops true o
 slashNameBy f h stops digits.Bad = Bad
 
+-- the name of section i
 unfoldable pub sectionNameBy : List ℕ → Header → List ℕ → ℕ → Name
 sectionNameBy f h stops i =
     pick (eqb (getD f (sectionHeaderAt h i) 0) SLASH) (slashNameBy f h stops (slashOffset f (sectionHeaderAt h i))) (sectionName f h i)

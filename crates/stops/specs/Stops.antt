@@ -24,10 +24,11 @@ abbrev pub stop : List ℕ → ℕ → ℕ
 stop t o = stopIn t o (length t)
 
 -- ---- what is noted
--- the bytes of a block, and the blocks whose stop is noted: those of a table of 4 MiB. Of a longer one the answer is the same, and found more slowly
+-- the bytes of a block
 abbrev pub BLOCK : ℕ
 BLOCK = 4096
 
+-- the blocks whose stop is noted: those of a table of 4 MiB. Of a longer one the answer is the same, and found more slowly
 abbrev pub BLOCKS : ℕ
 BLOCKS = 1024
 
@@ -39,17 +40,20 @@ blocksOf n = min BLOCKS (n / BLOCK + 1)
 abbrev pub stopWords : List ℕ → ℕ → List ℕ
 stopWords t n = listTo (λ b. stop t (b * BLOCK)) n
 
--- of the file's own string table
+-- how many blocks are noted of the file's own string table
 abbrev pub stopCount : List ℕ → Header → ℕ
 stopCount f h = blocksOf (length (strings f h))
 
+-- and their stops
 abbrev pub stopsOf : List ℕ → Header → List ℕ
 stopsOf f h = stopWords (strings f h) (stopCount f h)
 
--- ---- the stop from o by those words: in the rest of o's block, or else what is noted for the next block, or else behind it
+-- ---- the stop from o by those words
+-- from block k on, which starts at s: what is noted, or found by walking
 unfoldable pub stopBehind : List ℕ → List ℕ → ℕ → ℕ → ℕ
 stopBehind t stops k s = pick (ltb k (length stops)) (getD stops k 0) (stop t s)
 
+-- in the rest of o's block, or else from the next one on
 unfoldable pub stopBy : List ℕ → List ℕ → ℕ → ℕ
 stopBy t stops o =
     pick (ltb (stopIn t o (BLOCK - o % BLOCK) - o) (BLOCK - o % BLOCK)) (stopIn t o (BLOCK - o % BLOCK))

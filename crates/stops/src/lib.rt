@@ -10,9 +10,10 @@ ghost use Rattle.le.specs.Le.{splice};
 ghost use Rattle.stops.specs.Stops.{BLOCK, strings, stopIn, stop, blocksOf, stopWords, stopCount, stopsOf, stopBy};
 ghost use Rattle.stops.specs.Names.{mayEnd, longBy, slashNameBy, symbolNameBy, sectionNameBy};
 
-// The bytes of a block, and the blocks whose stop is noted: those of a table of 4 MiB.
+// The bytes of a block.
 const BLOCK: usize = 4096;
 
+// The blocks whose stop is noted: those of a table of 4 MiB.
 pub const BLOCKS: usize = 1024;
 
 // The string table's bytes.

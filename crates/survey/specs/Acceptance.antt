@@ -60,6 +60,7 @@ module _ (f : List ℕ) (c : Counts) (accepted : surveyOf f ≡ Accepted c) wher
   pub counts-are : counts f header ≡ c
   counts-are = (tells-accepted (firstFailed (checks f header)) (counts f header) c accepted) .1
 
+  -- 1 to 8 do not apply
   pub records-ordered : Ordered f header
   records-ordered = ordered f header (externChecks (length (externs f header)) ++ targetChecks (tally f header)) no-failure
 
@@ -112,12 +113,13 @@ module _ (f : List ℕ) (c : Counts) (accepted : surveyOf f ≡ Accepted c) wher
   loaded-not-passed i k a t =
       homed-not-passed _ f header (sectionHome f header) (targets f header) i k _ (loaded-starts f header i a t)
 
-  -- so each is a fixup of the fix list, or it is skipped and stands in the skip list, with its section from 1, its record from 0 and the reason
+  -- so each is a fixup of the fix list
   pub record IsFixed (i k : ℕ) : Type 0 where
     pub fix : Fix
     pub is : o i k ≡ Fixup fix
     pub listed : Stands fix (fixList o count (header .sections))
 
+  -- or it is skipped and stands in the skip list, with its section from 1, its record from 0 and the reason
   pub record IsSkipped (i k : ℕ) : Type 0 where
     pub reason : Skip
     pub is : o i k ≡ Skipped reason

@@ -38,21 +38,26 @@ module _ (f : List ℕ) (h : Header) (home : ℕ → Offset) (target : ℕ → T
   abbrev pub externsAnswer : Survey
   externsAnswer = answerBy (firstFailed (externChecks n ++ targetChecks (tallyBy f h home target))) (countsBy f h home n (tallyBy f h home target))
 
--- by the words that are kept of the sections and of the symbols
+-- ---- by the words that are kept of the sections and of the symbols
 module _ (f : List ℕ) (h : Header) (homes starts codes : List ℕ) where
+  -- the extern names, by the codes
   abbrev pub namesIn : List ℕ
   namesIn = externsBy f h (putsIn codes)
 
+  -- the answer from 9 on, by all of them
   abbrev pub answerIn : Survey
   answerIn = externsAnswer f h (homeIn homes) (targetIn homes starts (undefStart f h) (slotted f h namesIn codes)) (length namesIn)
 
--- those words, filled once
+-- ---- those words, filled once
 module _ (f : List ℕ) (h : Header) where
+  -- where the sections' homes start
   abbrev pub homeWords : List ℕ
   homeWords = splice (replicate MAX-SECTIONS 0) 0 (homesTo f h (h .sections))
 
+  -- where the sections start
   abbrev pub startWords : List ℕ
   startWords = splice (replicate MAX-SECTIONS 0) 0 (startsTo f h (h .sections))
 
+  -- what the symbols come to
   abbrev pub codeWords : List ℕ
   codeWords = splice (replicate MAX-SYMBOLS 0) 0 (codesTo f h (h .symbols))

@@ -26,7 +26,7 @@ use Rattle.checks.specs.Checks.{placeWithin, numberOk, numbersOk}
 use Rattle.rules.specs.declared.Rule.the-variants as rules
 use Rattle.rules.specs.Rule.{ruleOf}
 use Rattle.codes.specs.Code.{SPAN, symbolRule, putsIn}
-use Rattle.codes.specs.Puts.{Kept, front-at, filled-kept, puts-kept}
+use Rattle.codes.specs.Puts.{CodesKept, front-at, filled-kept, puts-kept}
 use Rattle.externs.specs.Externs.{externs, externsBy}
 use Rattle.externs.specs.Slot.{slotOf}
 use Rattle.externs.specs.Slotted.{slotted}
@@ -104,7 +104,8 @@ module _ (f : List ℕ) (h : Header) (fits : Fits f h) where
       let s = fits .sections in
       filled (λ j. startAt f h j % 2 ^ 32) (startWords f h) (part (startWords f h) 0 (h .sections)) MAX-SECTIONS (h .sections) refl s refl
 
-  pub codes-whole : Kept f h (codeWords f h)
+  -- the kept codes are those of the records
+  pub codes-whole : CodesKept f h (codeWords f h)
   codes-whole = filled-kept f h (codeWords f h) MAX-SYMBOLS (fits .symbols) refl
 
   -- so the extern names are the file's

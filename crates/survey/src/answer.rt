@@ -14,6 +14,7 @@ pub struct Counts {
     pub relocations: u64,
 }
 
+// The counts of a file that passes every check, or the number of the first refusal.
 pub enum Survey {
     Accepted(Counts),
     Refused(u64),

@@ -22,43 +22,53 @@ use Rattle.words.specs.Words.{WORD, wordOf}
 use Rattle.limits.specs.Limits.{SYMBOL-BYTES, EXTERN-BYTES}
 
 -- ---- the tables
--- how many words a record has
+-- how many words a record of the symbol table has
 abbrev pub SYMBOL-WORDS : ℕ
 SYMBOL-WORDS = SYMBOL-BYTES / WORD
 
+-- and one of the extern table
 abbrev pub EXTERN-WORDS : ℕ
 EXTERN-WORDS = EXTERN-BYTES / WORD
 
--- where each stands; address and name stand alike in both tables
+-- ---- where each word stands, from 0 (docs/HOST.md); name and address alike in both tables
+-- the symbol's address, or the slot's
 abbrev pub ADDRESS : ℕ
 ADDRESS = 0
 
+-- the number of the symbol's kind
 abbrev pub KIND : ℕ
 KIND = 1
 
+-- where its name starts in the file
 abbrev pub NAME-START : ℕ
 NAME-START = 2
 
+-- how many bytes that has
 abbrev pub NAME-LENGTH : ℕ
 NAME-LENGTH = 3
 
+-- the number of the symbol's record in the file
 abbrev pub NUMBER : ℕ
 NUMBER = 4
 
+-- the number of its home's record in the section table
 abbrev pub HOME : ℕ
 HOME = 5
 
+-- in the extern table: the lowest number of a symbol that put the name there
 abbrev pub EXTERN-NUMBER : ℕ
 EXTERN-NUMBER = 1
 
--- the whole records of a table
+-- the whole records of a symbol table; what is left behind them is none
 abbrev pub symbolCount : List ℕ → ℕ
 symbolCount table = length table / SYMBOL-BYTES
 
+-- the whole records of an extern table
 abbrev pub externCount : List ℕ → ℕ
 externCount table = length table / EXTERN-BYTES
 
 -- ---- a record by number
+-- of the symbols, as its words say
 abbrev pub symbolRecord : List ℕ → ℕ → Symbol
 symbolRecord table k = record {
   address = va (wordOf SYMBOL-WORDS table k ADDRESS);
@@ -69,6 +79,7 @@ symbolRecord table k = record {
   home = wordOf SYMBOL-WORDS table k HOME;
 }
 
+-- of the extern names
 abbrev pub externRecord : List ℕ → ℕ → Extern
 externRecord table k = record {
   address = va (wordOf EXTERN-WORDS table k ADDRESS);
@@ -81,6 +92,7 @@ externRecord table k = record {
 unfoldable pub symbolEntry : List ℕ → ℕ → SymbolAnswer
 symbolEntry table k = pick (ltb k (symbolCount table)) (S.Entry (symbolRecord table k)) (S.Refused NO-ENTRY)
 
+-- of an extern name likewise
 unfoldable pub externEntry : List ℕ → ℕ → ExternAnswer
 externEntry table k = pick (ltb k (externCount table)) (E.Entry (externRecord table k)) (E.Refused NO-ENTRY)
 
@@ -102,9 +114,11 @@ lastTo p (suc n) = pick (p n) (Value n) (lastTo p n)
 abbrev pub lastNamed : ℕ → ℕ → List ℕ → List ℕ → List ℕ → Number
 lastNamed W n file table name = lastTo (hasName W n file table name) n
 
+-- the last symbol of a name, by its record's number
 abbrev pub symbolNamed : List ℕ → List ℕ → List ℕ → Number
 symbolNamed file table name = lastNamed SYMBOL-WORDS (symbolCount table) file table name
 
+-- the last extern entry of a name; load's list has each name once
 abbrev pub externNamed : List ℕ → List ℕ → List ℕ → Number
 externNamed file table name = lastNamed EXTERN-WORDS (externCount table) file table name
 

@@ -49,6 +49,7 @@ pub enum SymbolAnswer {
     Refused(u64),
 }
 
+// The same for an extern name.
 pub enum ExternAnswer {
     Entry(Extern),
     Refused(u64),

@@ -112,6 +112,7 @@ module _ (f : List ℕ) (h : Header) (base undef : ℕ) (slots : List ℕ) where
 
 -- ---- the records by the names of their words: what is read in t from `at` on
 module _ (t : List ℕ) (at : ℕ) where
+  -- of section i: its range at the base, its file range, permissions, name, and number from 1
   pub record SectionAt (f : List ℕ) (h : Header) (base : ℕ) (starts : List ℕ) (i : ℕ) : Type 0 where
     pub start : get 8 t at ≡ (base + getD starts i 0) % 2 ^ 64
     pub end : get 8 t (at + 8) ≡ (base + getD starts i 0 + rangeLength f h i) % 2 ^ 64
@@ -122,6 +123,7 @@ module _ (t : List ℕ) (at : ℕ) where
     pub nameLong : get 8 t (at + 48) ≡ nameLength (sectionName f h i) % 2 ^ 64
     pub number : get 8 t (at + 56) ≡ (i + 1) % 2 ^ 64
 
+  -- of UNDEF: one page, no bytes in the file, readable, no name in the file, number 0
   pub record UndefAt (base undef : ℕ) : Type 0 where
     pub start : get 8 t at ≡ (base + undef) % 2 ^ 64
     pub end : get 8 t (at + 8) ≡ (base + undef + PAGE-SIZE) % 2 ^ 64
@@ -132,6 +134,7 @@ module _ (t : List ℕ) (at : ℕ) where
     pub nameLong : get 8 t (at + 48) ≡ 0
     pub number : get 8 t (at + 56) ≡ 0
 
+  -- of extern name e: its slot's address, the symbol that put it there, its name
   pub record ExternAt (f : List ℕ) (h : Header) (base undef : ℕ) (slots : List ℕ) (e : ℕ) : Type 0 where
     pub slot : get 8 t at ≡ (base + undef + SLOT-SIZE * e) % 2 ^ 64
     pub symbol : get 8 t (at + 8) ≡ getD slots e 0 % 2 ^ 64
@@ -157,6 +160,7 @@ module _ (f : List ℕ) (h : Header) (base : ℕ) (starts : List ℕ) (undef : �
         number = section-record f h base starts undef b room 7 (omega arith) i n t;
       }
 
+  -- UNDEF's record stands behind the loaded sections'
   pub undef-read : UndefAt (splice b 0 (sectionTable f h base starts undef)) (SECTION-BYTES * recordOf f h (h .sections)) base undef
   undef-read =
       rw (← length-chosen (loaded f h) (h .sections))

@@ -22,7 +22,7 @@ use Rattle.names.specs.Name.{symbolText}
 use Rattle.rules.specs.declared.Rule.{Rule}
 use Rattle.rules.specs.declared.Rule.the-variants as rules
 use Rattle.codes.specs.Code.{AUXILIARY, REFUSED, SLOT, EXTERN, UNDEF-RECORD, UNDEF-EXTERN, NO-SLOT, SPAN, HOMES, RECORDS, SLOTS, someSectionNamed, symbolRule, namedCode, ruleCode, symbolCode, codeOf}
-use Rattle.codes.specs.Puts.{Kept, front-at}
+use Rattle.codes.specs.Puts.{CodesKept, front-at}
 use Rattle.layout.specs.Layout.{startAt, undefStart}
 use Rattle.homes.specs.declared.Home as Homes
 use Rattle.homes.specs.declared.Home.the-variants.{Loaded, Undef, Nowhere}
@@ -164,7 +164,7 @@ pub record Coded (f : List ℕ) (h : Header) : Type 0 where
   pub sections : h .sections ≤ SPAN
   pub numbers : (j n : ℕ) → j < h .symbols → primary f h j ≡ true → symbolRule f h j ≡ rules.Section n → n < SPAN
 
-module _ (f : List ℕ) (h : Header) (home : ℕ → Offset) (starts : List ℕ) (ys codes : List ℕ) (fits : Coded f h) (kept : Kept f h codes)
+module _ (f : List ℕ) (h : Header) (home : ℕ → Offset) (starts : List ℕ) (ys codes : List ℕ) (fits : Coded f h) (kept : CodesKept f h codes)
     (begins : (i : ℕ) → i < h .sections → getD starts i 0 ≡ startAt f h i) (names : length ys ≤ SPAN) where
   code-is : (j : ℕ) → j < h .symbols → getD (slotted f h ys codes) j 0 ≡ slottedCode (codeOf f h j) (slotOf f h ys (symbolText f h j))
   unfolding slottedAt pick

@@ -1,9 +1,11 @@
 -- What a relocation's symbol comes to, as an offset from the base (01, "Layout, slots and fixups" and refusal 10).
+use mathlib.Core.Path.{_≡_, refl}
 use mathlib.Core.List.{List}
 use Prim.Native.Nat.{ℕ, _+_, _*_}
 use lib.Dec.{leb}
 use Rattle.util.specs.Pick.{pick}
 use Rattle.limits.specs.Limits.{SLOT-SIZE}
+use Rattle.refusal.specs.Refusal.{TARGET}
 use Rattle.arch.specs.declared.Offset.{Offset}
 use Rattle.arch.specs.declared.Offset.the-variants.{At, None}
 use Rattle.arch.specs.Address.{rva}
@@ -12,6 +14,7 @@ use Rattle.object.specs.Symbol.{primary}
 use Rattle.names.specs.Name.{symbolText}
 use Rattle.rules.specs.declared.Rule.{Rule}
 use Rattle.rules.specs.declared.Rule.the-variants as rules
+use Rattle.rules.specs.Rule.{ruleRefusal}
 use Rattle.codes.specs.Code.{symbolRule}
 use Rattle.layout.specs.Layout.{undefStart}
 use Rattle.homes.specs.Home.{namedRecord, homeStart, byNumber, sectionHome}
@@ -32,6 +35,14 @@ skipNumber NoHome = 2
 skipNumber NoSlot = 3
 skipNumber NoType = 4
 
+-- the refusal of each case (01, "Survey"), 0 where there is none
+abbrev pub targetRefusal : Target → ℕ
+targetRefusal (Home o) = 0
+targetRefusal (Named o) = 0
+targetRefusal (Slot o) = 0
+targetRefusal (Missing k) = 0
+targetRefusal Refused = TARGET
+
 -- a symbol in a section: where that section's home starts
 unfoldable pub homeTarget : Offset → Target
 homeTarget (At o) = Home o
@@ -47,11 +58,13 @@ unfoldable pub namedTarget : Offset → Target → Target
 namedTarget (At o) other = Named o
 namedTarget None other = other
 
--- `home` says where a section's home starts, `slot` finds a name's slot
+-- ---- `home` says where a section's home starts, `slot` finds a name's slot
 module _ (f : List ℕ) (h : Header) (home : ℕ → Offset) (undef : ℕ) (slot : List ℕ → Found) where
+  -- the slot of symbol j's name, or K3
   abbrev pub slotFor : ℕ → Target
   slotFor j = slotTarget undef (slot (symbolText f h j))
 
+  -- the section of symbol j's name, else its slot
   abbrev pub namedFor : ℕ → Target
   namedFor j = namedTarget (homeStart f h (namedRecord f h (symbolText f h j))) (slotFor j)
 
@@ -70,3 +83,29 @@ module _ (f : List ℕ) (h : Header) (home : ℕ → Offset) (undef : ℕ) (slot
 -- in a file
 abbrev pub targets : List ℕ → Header → ℕ → Target
 targets f h = targetOf f h (sectionHome f h) (undefStart f h) (slotOf f h (externs f h))
+
+-- ---- a target is refused where its rule is, by the same number
+home-not-refused : (x : Offset) → targetRefusal (homeTarget x) ≡ 0
+unfolding homeTarget
+home-not-refused (At o) = refl
+home-not-refused None = refl
+
+slot-not-refused : (undef : ℕ) (x : Found) → targetRefusal (slotTarget undef x) ≡ 0
+unfolding slotTarget
+slot-not-refused undef (Index e) = refl
+slot-not-refused undef Nothing = refl
+
+named-not-refused : (x : Offset) (other : Target) → targetRefusal other ≡ 0 → targetRefusal (namedTarget x other) ≡ 0
+unfolding namedTarget
+named-not-refused (At o) other e = refl
+named-not-refused None other e = e
+
+pub rule-refused : (f : List ℕ) (h : Header) (home : ℕ → Offset) (undef : ℕ) (slot : List ℕ → Found) (r : Rule) (j : ℕ)
+    → targetRefusal (ruleTarget f h home undef slot r j) ≡ ruleRefusal r
+unfolding ruleTarget
+rule-refused f h home undef slot (rules.Section n) j = home-not-refused (byNumber home None n)
+rule-refused f h home undef slot rules.Extern j = slot-not-refused undef (slot (symbolText f h j))
+rule-refused f h home undef slot rules.Slot j = slot-not-refused undef (slot (symbolText f h j))
+rule-refused f h home undef slot rules.Name j =
+    named-not-refused (homeStart f h (namedRecord f h (symbolText f h j))) (slotFor f h home undef slot j) (slot-not-refused undef (slot (symbolText f h j)))
+rule-refused f h home undef slot rules.Refused j = refl

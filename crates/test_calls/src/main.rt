@@ -3,11 +3,11 @@
 // `--` says what the next ones are about. Each line is written again, and behind a question ` =` and the answer, its numbers in hexadecimal; where there is
 // none, `no`. What is known of where the answers come from is docs/DECISIONS.md 58.
 mod bytes;
+mod kinds_said;
 mod numbers;
 mod records;
-mod symbols;
+mod symbol_rows;
 mod texts;
-mod words;
 
 fn main() {
     let mut text = io::large_buffer();

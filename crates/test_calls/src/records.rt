@@ -1,7 +1,7 @@
 // Records, which `object` reads: the header, section i, its relocation r, symbol i.
+use crate::kinds_said;
 use crate::numbers;
-use crate::symbols;
-use crate::words;
+use crate::symbol_rows;
 use kinds::RelocationKind;
 use kinds::RelocationType;
 use object::Header;
@@ -33,13 +33,13 @@ pub(crate) fn answer(k: u8, f: &[u8], a: u64, b: u64) {
         1 => cases::yes(object::is_uninitialized(f, h, i)),
         2 => cases::yes(object::is_extended(f, h, i)),
         3 => asked(kinds::type_of(numbers::of_bits(a), (b % 0x10000) as u16)),
-        4 => symbols::maps(f, h),
-        5 => symbols::classes(f),
+        4 => symbol_rows::maps(f, h),
+        5 => symbol_rows::classes(f),
         6..=17 => cases::hex(number(k, f, h, i, r)),
         18..=33 => cases::hex(word(k, f, h, i, r) as u64),
-        34 => words::kind(f, h, i),
-        35 => words::place(f, h, i),
-        36 => words::relocation(kind_asked(kinds::type_of(
+        34 => kinds_said::kind(f, h, i),
+        35 => kinds_said::place(f, h, i),
+        36 => kinds_said::relocation(kind_asked(kinds::type_of(
             numbers::of_bits(a),
             (b % 0x10000) as u16,
         ))),
@@ -63,7 +63,7 @@ fn number(k: u8, f: &[u8], h: Header, i: u32, r: u32) -> u64 {
         12 => object::relocation_type(f, h, i, r) as u64,
         13 => object::symbol_class(f, h, i) as u64,
         14 => kinds::kind_number(object::symbol_kind(f, h, i)),
-        15 => symbols::place_number(object::symbol_place(f, h, i)),
+        15 => symbol_rows::place_number(object::symbol_place(f, h, i)),
         16 => object::auxiliaries(f, h, i) as u64,
         _ => object::auxiliaries_past(f, h) as u64,
     }

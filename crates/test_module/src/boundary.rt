@@ -9,9 +9,10 @@ use section::OffsetProbe;
 use section::Probe;
 use section::Section;
 
-// Where the words of a section record stand that are asked for here.
+// Where the words of a section record stand that are asked for here: its first address.
 pub const START: u8 = 0;
 
+// The address behind its last.
 pub const END: u8 = 1;
 
 const FILE_START: u8 = 2;

@@ -3,7 +3,7 @@
 // The expected output is not this program's: a script answered the same questions from the reference model's tables.
 mod ask;
 mod boundary;
-mod lists;
+mod listed;
 mod reading;
 mod say;
 
@@ -77,13 +77,13 @@ fn asked(f: &[u8], c: Counts, sections: &[u8], symbols: &[u8], externs: &[u8]) {
         n,
     );
     let k = cases::few(c.symbols);
-    lists::symbols(
+    listed::symbols(
         f,
         le::part(symbols, 0, k as usize * limits::SYMBOL_BYTES),
         k,
     );
     let e = cases::few(c.externs);
-    lists::externs(
+    listed::externs(
         f,
         le::part(externs, 0, e as usize * limits::EXTERN_BYTES),
         e,

@@ -8,19 +8,22 @@ pub fn end() {
     cases::end();
 }
 
-// A part of a line: a number, an address or an offset, a refusal.
+// A part of a line: a number, in decimal.
 fn value(n: u64) {
     cases::part(b" ", n);
 }
 
+// An address or an offset, in hexadecimal.
 pub fn place(n: u64) {
     cases::address(b" ", n);
 }
 
+// The word `refused`, and the number.
 pub fn refused(n: u64) {
     cases::part(b" refused ", n);
 }
 
+// A name, as its bytes.
 pub fn name(s: &[u8]) {
     cases::text(b" ");
     cases::text(s);
@@ -34,6 +37,7 @@ pub fn number(n: Number) {
     }
 }
 
+// An address, or `refused` and the number.
 pub fn address(a: AddressAnswer) {
     match a {
         AddressAnswer::Found(va) => place(va.0),
@@ -41,6 +45,7 @@ pub fn address(a: AddressAnswer) {
     }
 }
 
+// An offset from the base, or `refused` and the number.
 pub fn offset(a: OffsetAnswer) {
     match a {
         OffsetAnswer::Found(rva) => place(rva.0),
@@ -48,6 +53,7 @@ pub fn offset(a: OffsetAnswer) {
     }
 }
 
+// The word `yes` or `no`.
 pub fn yes(b: bool) {
     if b {
         cases::text(b" yes");

@@ -9,7 +9,7 @@ use borrow.Author.Tests.{lt-ltb, le-ltb, eq-eqb, ne-eqb}
 use lib.ListN.{length, set}
 use Rattle.util.specs.Pick.{pick, le-or-lt}
 use Rattle.le.specs.Le.{splice, splice-past}
-use Rattle.text.specs.Text.{glyph, digits, number, decimal, signed, mark, permissions, Puts}
+use Rattle.text.specs.Text.{glyph, digits, number, decimalText, signedText, letterOr, permissionsText, Puts}
 use Rattle.text.specs.TextLaws.{same, then}
 
 -- ---- a byte
@@ -73,30 +73,30 @@ pub ruleset number-ways = (put-last, put-next, same)
 
 -- ---- the ways through `put_signed`
 module _ (l : List ℕ) (at v : ℕ) (e : List ℕ) (q : ℕ) where
-  pub signed-plus : v < 2 ^ 63 → Puts l at (decimal v) e q → Puts l at (signed v) e q
-  unfolding signed pick
+  pub signed-plus : v < 2 ^ 63 → Puts l at (decimalText v) e q → Puts l at (signedText v) e q
+  unfolding signedText pick
   signed-plus h p = rw (lt-ltb v (2 ^ 63) h) p
 
-  pub signed-minus : (a : List ℕ) (to : ℕ) → 2 ^ 63 ≤ v → v < 2 ^ 64 → Puts l at (45 ∷ []) a to → Puts a to (decimal (18446744073709551615 - v + 1)) e q
-      → Puts l at (signed v) e q
-  unfolding signed pick
+  pub signed-minus : (a : List ℕ) (to : ℕ) → 2 ^ 63 ≤ v → v < 2 ^ 64 → Puts l at (45 ∷ []) a to → Puts a to (decimalText (18446744073709551615 - v + 1)) e q
+      → Puts l at (signedText v) e q
+  unfolding signedText pick
   signed-minus a to h k f p =
       let g : 18446744073709551615 - v + 1 ≡ 2 ^ 64 - v = omega arith in
-      rw (le-ltb v (2 ^ 63) h) (then l at a to (45 ∷ []) (decimal (2 ^ 64 - v)) e q f (rw g at p))
+      rw (le-ltb v (2 ^ 63) h) (then l at a to (45 ∷ []) (decimalText (2 ^ 64 - v)) e q f (rw g at p))
 
 pub ruleset signed-ways = (signed-plus, signed-minus, same)
 
 -- ---- permissions
-pub mark-no : (bit letter : ℕ) → bit ≡ 0 → 45 ≡ mark bit letter
-unfolding mark pick
+pub mark-no : (bit letter : ℕ) → bit ≡ 0 → 45 ≡ letterOr bit letter
+unfolding letterOr pick
 mark-no bit letter h = rw (eq-eqb bit 0 h)
 
-pub mark-yes : (bit letter : ℕ) → (bit ≡ 0 → ⊥) → letter ≡ mark bit letter
-unfolding mark pick
+pub mark-yes : (bit letter : ℕ) → (bit ≡ 0 → ⊥) → letter ≡ letterOr bit letter
+unfolding letterOr pick
 mark-yes bit letter h = rw (ne-eqb bit 0 h)
 
-pub permissions-put : (l : List ℕ) (at p r w x i j k : ℕ) (a b c : List ℕ) → r ≡ mark (p % 2) 82 → Puts l at (r ∷ []) a i → w ≡ mark (p / 2 % 2) 87
-    → Puts a i (w ∷ []) b j → x ≡ mark (p / 4 % 2) 88 → Puts b j (x ∷ []) c k → Puts l at (permissions p) c k
-unfolding permissions
+pub permissions-put : (l : List ℕ) (at p r w x i j k : ℕ) (a b c : List ℕ) → r ≡ letterOr (p % 2) 82 → Puts l at (r ∷ []) a i → w ≡ letterOr (p / 2 % 2) 87
+    → Puts a i (w ∷ []) b j → x ≡ letterOr (p / 4 % 2) 88 → Puts b j (x ∷ []) c k → Puts l at (permissionsText p) c k
+unfolding permissionsText
 permissions-put l at p r w x i j k a b c e f e′ g e″ h =
     rw (← e, ← e′, ← e″) (then l at a i (r ∷ []) (w ∷ x ∷ []) c k f (then a i b j (w ∷ []) (x ∷ []) c k g h))

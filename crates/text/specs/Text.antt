@@ -17,31 +17,37 @@ unfoldable pub digits : ℕ → ℕ → ℕ → List ℕ
 digits b zero n = glyph n ∷ []
 digits b (suc fuel) n = pick (ltb n b) (glyph n ∷ []) (digits b fuel (n / b) ++ (glyph (n % b) ∷ []))
 
+-- n in base b, all its digits
 unfoldable pub number : ℕ → ℕ → List ℕ
 number b n = digits b n n
 
-abbrev pub decimal : ℕ → List ℕ
-decimal n = number 10 n
+-- as counts and file offsets are printed
+abbrev pub decimalText : ℕ → List ℕ
+decimalText n = number 10 n
 
-abbrev pub hex : ℕ → List ℕ
-hex n = number 16 n
+-- as addresses are printed
+abbrev pub hexText : ℕ → List ℕ
+hexText n = number 16 n
 
 -- v in two's complement of 64 bits, with its sign
-unfoldable pub signed : ℕ → List ℕ
-signed v = pick (ltb v (2 ^ 63)) (decimal v) (45 ∷ decimal (2 ^ 64 - v))
+unfoldable pub signedText : ℕ → List ℕ
+signedText v = pick (ltb v (2 ^ 63)) (decimalText v) (45 ∷ decimalText (2 ^ 64 - v))
 
--- ---- permissions: read 1, write 2, execute 4, each its letter or `-`
-unfoldable pub mark : ℕ → ℕ → ℕ
-mark bit letter = pick (eqb bit 0) 45 letter
+-- ---- permissions
+-- a permission's letter, or `-` where its bit is 0
+unfoldable pub letterOr : ℕ → ℕ → ℕ
+letterOr bit letter = pick (eqb bit 0) 45 letter
 
-unfoldable pub permissions : ℕ → List ℕ
-permissions p = mark (p % 2) 82 ∷ mark (p / 2 % 2) 87 ∷ mark (p / 4 % 2) 88 ∷ []
+-- read 1, write 2, execute 4, as `R`, `W` and `X`
+unfoldable pub permissionsText : ℕ → List ℕ
+permissionsText p = letterOr (p % 2) 82 ∷ letterOr (p / 2 % 2) 87 ∷ letterOr (p / 4 % 2) 88 ∷ []
 
 -- ---- words
 -- a word that another follows
 abbrev pub word : List ℕ → List ℕ
 word w = w ++ (32 ∷ [])
 
+-- the end of every line
 abbrev pub newline : List ℕ
 newline = 10 ∷ []
 

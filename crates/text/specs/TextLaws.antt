@@ -9,7 +9,7 @@ use borrow.Author.Tests.{lt-ltb, le-ltb}
 use lib.ListN.{length, set, length-set, length-append}
 use Rattle.util.specs.Pick.{pick, le-or-lt}
 use Rattle.le.specs.Le.{splice, part, length-splice, splice-next, splice-past, part-splice}
-use Rattle.text.specs.Text.{glyph, digits, number, decimal, hex, signed, Puts}
+use Rattle.text.specs.Text.{glyph, digits, number, decimalText, hexText, signedText, Puts}
 
 -- what does not fit is as good as not there
 splice-full : (l : List ℕ) (i : ℕ) (xs ys : List ℕ) → length l ≤ i + length xs → splice l i (xs ++ ys) ≡ splice l i xs
@@ -61,16 +61,16 @@ few-digits b h (suc fuel) (suc k) n p = step (few-digits b h fuel k (n / b) (div
     step r (inl g) = rw (le-ltb n b g, length-append (digits b fuel (n / b)) (glyph (n % b) ∷ [])) (omega arith)
     step r (inr g) = rw (lt-ltb n b g) (omega arith)
 
-pub hex-long : (n : ℕ) → n < 2 ^ 64 → length (hex n) ≤ 16
+pub hex-long : (n : ℕ) → n < 2 ^ 64 → length (hexText n) ≤ 16
 unfolding number
 hex-long n h = few-digits 16 (omega arith) n 15 n h
 
-pub decimal-long : (n : ℕ) → n < 2 ^ 64 → length (decimal n) ≤ 20
+pub decimal-long : (n : ℕ) → n < 2 ^ 64 → length (decimalText n) ≤ 20
 unfolding number
 decimal-long n h = few-digits 10 (omega arith) n 19 n (omega arith)
 
-pub signed-long : (v : ℕ) → v < 2 ^ 64 → length (signed v) ≤ 21
-unfolding signed pick
+pub signed-long : (v : ℕ) → v < 2 ^ 64 → length (signedText v) ≤ 21
+unfolding signedText pick
 signed-long v h =
     ⊎-elim (λ (k : 2 ^ 63 ≤ v). rw (le-ltb v (2 ^ 63) k) (omega (arith, decimal-long (2 ^ 64 - v) (omega arith))))
     (λ (k : v < 2 ^ 63). rw (lt-ltb v (2 ^ 63) k) (omega (arith, decimal-long v h)))

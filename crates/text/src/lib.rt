@@ -2,7 +2,7 @@
 ghost use mathlib.Core.Path.{_≡_};
 ghost use mathlib.Core.List.{[], _∷_, _++_};
 ghost use Prim.Native.Nat.{_%_, _≤_};
-ghost use Rattle.text.specs.Text.{glyph, number, decimal, hex, signed, mark as markOf, permissions, word, Puts};
+ghost use Rattle.text.specs.Text.{glyph, number, decimalText, hexText, signedText, letterOr as markOf, permissionsText, word, Puts};
 
 // One byte at `at`; the answer is where the next goes.
 pub fn put_byte(out: &mut [u8], at: usize, b: u8) -> usize
@@ -49,21 +49,21 @@ fn put_number(out: &mut [u8], at: usize, n: u64, base: u64) -> usize
 
 // A number in decimal.
 pub fn put_decimal(out: &mut [u8], at: usize, n: u64) -> usize
-    ensures { λ r. ⌜ Puts (now (out .entry)) at (decimal n) (now (out .exit)) r ⌝ }
+    ensures { λ r. ⌜ Puts (now (out .entry)) at (decimalText n) (now (out .exit)) r ⌝ }
 {
     put_number(out, at, n, 10)
 }
 
 // A number in hexadecimal.
 pub fn put_hex(out: &mut [u8], at: usize, n: u64) -> usize
-    ensures { λ r. ⌜ Puts (now (out .entry)) at (hex n) (now (out .exit)) r ⌝ }
+    ensures { λ r. ⌜ Puts (now (out .entry)) at (hexText n) (now (out .exit)) r ⌝ }
 {
     put_number(out, at, n, 16)
 }
 
 // A number in two's complement.
 pub fn put_signed(out: &mut [u8], at: usize, v: u64) -> usize
-    ensures { λ r. ⌜ Puts (now (out .entry)) at (signed v) (now (out .exit)) r ⌝ }
+    ensures { λ r. ⌜ Puts (now (out .entry)) at (signedText v) (now (out .exit)) r ⌝ }
 {
     if v < 0x8000000000000000 {
         return put_decimal(out, at, v);
@@ -79,7 +79,7 @@ fn mark(bit: u64, letter: u8) -> u8
 }
 
 fn put_permissions(out: &mut [u8], at: usize, p: u64) -> usize
-    ensures { λ r. ⌜ Puts (now (out .entry)) at (permissions p) (now (out .exit)) r ⌝ }
+    ensures { λ r. ⌜ Puts (now (out .entry)) at (permissionsText p) (now (out .exit)) r ⌝ }
 {
     let w = put_byte(out, at, mark(p % 2, b'R'));
     let x = put_byte(out, w, mark(p / 2 % 2, b'W'));
@@ -88,7 +88,7 @@ fn put_permissions(out: &mut [u8], at: usize, p: u64) -> usize
 
 // With a space behind them.
 pub fn hex_word(out: &mut [u8], at: usize, n: u64) -> usize
-    ensures { λ r. ⌜ Puts (now (out .entry)) at (word (hex n)) (now (out .exit)) r ⌝ }
+    ensures { λ r. ⌜ Puts (now (out .entry)) at (word (hexText n)) (now (out .exit)) r ⌝ }
 {
     let to = put_hex(out, at, n);
     put_byte(out, to, b' ')
@@ -96,7 +96,7 @@ pub fn hex_word(out: &mut [u8], at: usize, n: u64) -> usize
 
 // In decimal.
 pub fn decimal_word(out: &mut [u8], at: usize, n: u64) -> usize
-    ensures { λ r. ⌜ Puts (now (out .entry)) at (word (decimal n)) (now (out .exit)) r ⌝ }
+    ensures { λ r. ⌜ Puts (now (out .entry)) at (word (decimalText n)) (now (out .exit)) r ⌝ }
 {
     let to = put_decimal(out, at, n);
     put_byte(out, to, b' ')
@@ -104,7 +104,7 @@ pub fn decimal_word(out: &mut [u8], at: usize, n: u64) -> usize
 
 // Permissions.
 pub fn permissions_word(out: &mut [u8], at: usize, p: u64) -> usize
-    ensures { λ r. ⌜ Puts (now (out .entry)) at (word (permissions p)) (now (out .exit)) r ⌝ }
+    ensures { λ r. ⌜ Puts (now (out .entry)) at (word (permissionsText p)) (now (out .exit)) r ⌝ }
 {
     let to = put_permissions(out, at, p);
     put_byte(out, to, b' ')
@@ -112,7 +112,7 @@ pub fn permissions_word(out: &mut [u8], at: usize, p: u64) -> usize
 
 // A line's first word, which has its own space, and its first number.
 pub fn hex_head(out: &mut [u8], s: &[u8], n: u64) -> usize
-    ensures { λ r. ⌜ Puts (now (out .entry)) 0 (now (s .entry) ++ word (hex n)) (now (out .exit)) r ⌝ }
+    ensures { λ r. ⌜ Puts (now (out .entry)) 0 (now (s .entry) ++ word (hexText n)) (now (out .exit)) r ⌝ }
 {
     let to = put_text(out, 0, s);
     hex_word(out, to, n)
@@ -120,7 +120,7 @@ pub fn hex_head(out: &mut [u8], s: &[u8], n: u64) -> usize
 
 // The same in decimal.
 pub fn decimal_head(out: &mut [u8], s: &[u8], n: u64) -> usize
-    ensures { λ r. ⌜ Puts (now (out .entry)) 0 (now (s .entry) ++ word (decimal n)) (now (out .exit)) r ⌝ }
+    ensures { λ r. ⌜ Puts (now (out .entry)) 0 (now (s .entry) ++ word (decimalText n)) (now (out .exit)) r ⌝ }
 {
     let to = put_text(out, 0, s);
     decimal_word(out, to, n)

@@ -1,3 +1,4 @@
 pub mod Pick
 pub mod Prefix
+pub mod Fold
 pub mod Align

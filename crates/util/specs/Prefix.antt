@@ -12,14 +12,17 @@ use lib.Seq.{getD-append-seam}
 use borrow.Author.Tests.{not-true, not-false}
 use Rattle.util.specs.Pick.{pick, and-left, and-right, and-both}
 
+-- each number below n passes; with n = 0 it holds
 unfoldable pub allTo : (ℕ → Bool) → ℕ → Bool
 allTo p zero = true
 allTo p (suc n) = allTo p n && p n
 
+-- some number below n passes
 unfoldable pub anyTo : (ℕ → Bool) → ℕ → Bool
 anyTo p zero = false
 anyTo p (suc n) = anyTo p n || p n
 
+-- f 0 + ... + f (n - 1)
 unfoldable pub sumTo : (ℕ → ℕ) → ℕ → ℕ
 sumTo f zero = 0
 sumTo f (suc n) = sumTo f n + f n

@@ -1,4 +1,5 @@
-// Rounding up, from util.rs, and what every layer shares: two tests as one, a choice by a test, recursion over the numbers below n.
+// Rounding up, from util.rs, and what every layer shares: two tests as one, a choice by a test, recursion over the numbers below n, the fold over
+// relocations.
 ghost use mathlib.Core.Path.{_≡_};
 ghost use mathlib.Core.Bool.{_&&_, _||_};
 ghost use Prim.Native.Nat.{_+_, _%_, _^_, max};

@@ -13,19 +13,24 @@ use Rattle.survey.specs.Survey.{surveyOf}
 use Rattle.verdict.specs.declared.answer.Verdict.{Verdict}
 use Rattle.verdict.specs.declared.answer.Verdict.the-variants.{TooLarge, Refused, Lines}
 
--- the most that it takes: file bytes, pages, sections, symbol records, relocations; of the file's own records, listed or not
+-- ---- the most that the program takes; records are the file's own, listed or not
+-- file bytes
 abbrev pub MOST-BYTES : ℕ
 MOST-BYTES = 16384
 
+-- mapped pages, with UNDEF's and the zero page
 abbrev pub MOST-PAGES : ℕ
 MOST-PAGES = 8
 
+-- section records
 abbrev pub MOST-SECTIONS : ℕ
 MOST-SECTIONS = 16
 
+-- symbol records, auxiliary ones too
 abbrev pub MOST-SYMBOLS : ℕ
 MOST-SYMBOLS = 128
 
+-- relocations in all sections, passed ones too
 abbrev pub MOST-RELOCATIONS : ℕ
 MOST-RELOCATIONS = 128
 
@@ -37,10 +42,11 @@ fits c =
     && (leb (c .«symbol_records») MOST-SYMBOLS
     && leb (c .relocations) MOST-RELOCATIONS))
 
--- by survey's answer, and by the file
+-- by survey's answer
 unfoldable pub verdictBy : Survey → Verdict
 verdictBy (survey.Refused n) = Refused n
 verdictBy (survey.Accepted c) = pick (fits c) (Lines c) TooLarge
 
+-- by the file: its size comes before everything
 unfoldable pub verdictOf : List ℕ → Verdict
 verdictOf f = pick (leb (length f) MOST-BYTES) (verdictBy (surveyOf f)) TooLarge

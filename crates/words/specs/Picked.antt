@@ -15,6 +15,7 @@ use Rattle.le.specs.Le.{splice, splice-next, splice-long}
 use Rattle.words.specs.Words.{WORD, wordBytes, length-words}
 use Rattle.words.specs.Rows.{rowWords, rows-join}
 
+-- the bytes of those records, `words` saying what a number's record holds
 unfoldable pub picked : (ℕ → Bool) → (ℕ → List ℕ) → ℕ → List ℕ
 picked p words zero = []
 picked p words (suc n) = pick (p n) (picked p words n ++ wordBytes (words n)) (picked p words n)

@@ -23,11 +23,12 @@ wordBytes (w ∷ ws) = le WORD w ++ wordBytes ws
 unfoldable pub wordOf : ℕ → List ℕ → ℕ → ℕ → ℕ
 wordOf W table r w = get WORD table (WORD * (W * r + w))
 
--- where a name starts in the file, and how long it is; a bad name has no place
+-- where a name starts in the file; a bad name has no place, and counts as 0
 abbrev pub nameStart : Name → ℕ
 nameStart (Good at n) = at
 nameStart Bad = 0
 
+-- how many bytes it has; a bad name none
 abbrev pub nameLength : Name → ℕ
 nameLength (Good at n) = n
 nameLength Bad = 0

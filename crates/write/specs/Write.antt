@@ -6,7 +6,7 @@ use lib.Dec.{leb}
 use Rattle.util.specs.Pick.{pick}
 use Rattle.refusal.specs.Refusal.{STORAGE, NOT-MAPPED, TOO-LONG}
 use Rattle.pagemap.specs.Pages.{storageOk, spanMapped}
-use Rattle.aspace.specs.Space.{spanAt}
+use Rattle.aspace.specs.Space.{spanMappedAt}
 
 -- the most that one write takes
 abbrev pub MAX-WRITE : ℕ
@@ -19,4 +19,4 @@ writeCode size marks o n = pick (storageOk size (length marks)) (pick (leb n MAX
 -- the same at the address a
 unfoldable pub writeCodeAt : ℕ → List ℕ → ℕ → ℕ → ℕ → ℕ
 writeCodeAt size marks base a n =
-    pick (storageOk size (length marks)) (pick (leb n MAX-WRITE) (pick (spanAt size marks base a n) 0 NOT-MAPPED) TOO-LONG) STORAGE
+    pick (storageOk size (length marks)) (pick (leb n MAX-WRITE) (pick (spanMappedAt size marks base a n) 0 NOT-MAPPED) TOO-LONG) STORAGE

@@ -1,5 +1,6 @@
 use borrow.Author.Needs.{needs}
-use Rattle.externs.proofs.Laws.{spot-loop, spot-keys, Passed}
+use Rattle.externs.proofs.Laws.{spot-loop, spot-keys, keys-rise, Passed}
+use native.Mathlib.Omega.{arith}
 use Prim.Native.Nat.{_-_, _≤_}
 use Rattle.externs.specs.Held.{held}
 use Rattle.externs.proofs.find.Statement.{statement}
@@ -32,7 +33,7 @@ find-spec =
     (λ c. search (needs, spot-loop, spot-keys))
     (λ c. search (needs, spot-loop, spot-keys))
     (λ c. search (needs, spot-loop, spot-keys))
-    (λ c. search (needs, spot-loop, spot-keys))
+    (λ c κs. (omega arith, omega arith, search (needs, keys-rise)))
     (λ c. search (needs, spot-loop, spot-keys))
     (λ c. search (needs, spot-loop, spot-keys))
     (λ c. search (needs, spot-loop, spot-keys)))

@@ -9,7 +9,7 @@ insert-spec =
     tie.close
     (tie.spec
     (λ c. search needs)
-    (λ c κs. (omega arith, omega arith, search needs, search needs))
+    (λ c κs. (omega arith, omega arith, search needs, search needs, search needs))
     (λ c. search needs)
     (λ c. search (needs, before-room))
     (λ c. search needs)

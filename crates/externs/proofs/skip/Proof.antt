@@ -24,4 +24,5 @@ skip-spec =
     (λ c. search (needs, skip-loop))
     (λ c. search (needs, skip-loop))
     (λ c. search (needs, skip-loop))
+    (λ c. search (needs, skip-loop))
     (λ c. search (needs, skip-loop)))

@@ -1,11 +1,11 @@
 use borrow.Author.Needs.{needs}
-use Rattle.kinds.specs.Symbol.{kindOf}
+use Rattle.kinds.specs.Symbol.{kindNumbered}
 use Rattle.util.specs.Pick.{picks}
 use Rattle.listing.proofs.kind_of.Statement.{statement}
 use Rattle.listing.proofs.kind_of.Tie as tie
 
 pub kind-of-spec : {M : Type 1} → statement M
-unfolding kindOf
+unfolding kindNumbered
 kind-of-spec =
     tie.close
     (tie.spec

@@ -48,7 +48,7 @@ use denote.Triple.Table.{entered, cited}
 use denote.Triple.Walked.{says, Stays, stay-none, stay-none-slice, walkOf, goes-none, goes-none-slice, Walks, ends-at, walked, walk-meets}
 use denote.Exit.{yes}
 use Rattle.section.specs.declared.Section.{Section}
-use Rattle.module.specs.Questions.{filled, Fills}
+use Rattle.module.specs.Questions.{tableFilled, Fills}
 use Rattle.section.proofs.Section as T
 use Rattle.section.proofs.Section.Laws as T′
 use Rattle.module.proofs.fill_sections as fill
@@ -98,7 +98,7 @@ module _ {M : Type 1} (𝓤 : URA M) (H : Heap 𝓤) (A : Atoms 𝓤) (W : Given
 
   -- the array as it is filled
   abbrev fin : List Section
-  fin = filled (src .now) ys
+  fin = tableFilled (src .now) ys
 
   exits : ent 𝓤 (⋆ 𝓤 H A (‵ (Arr .own fin (array-vals vals fin)) ∷ (‵ (flft κ q) ⊛ ‵ ftrue) ∷ ‵ Src ∷ ‵ (Arr .own ys (v ∷ [])) ∷ [])) (Post (whole-val fin))
   exits =

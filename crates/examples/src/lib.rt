@@ -1,0 +1,1 @@
+// Objects built by a definition from numbers: specs alone.
