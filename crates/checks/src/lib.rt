@@ -2,8 +2,9 @@
 use arch::VA;
 use kinds::Place;
 use object::Header;
+use object::Symbol;
 ghost use mathlib.Core.Path.{_≡_};
-ghost use Rattle.object.specs.Symbol.{auxiliariesLeft, okAt};
+ghost use Rattle.object.specs.Symbol.{symbolOf, placeOf, auxiliariesLeft, okAt};
 ghost use Rattle.checks.specs.Checks.{baseOk, numberOk, numbersOk, pagesOk, placeWithin};
 
 // 12: the base is a page multiple and not too high.
@@ -26,18 +27,19 @@ fn place_within(n: u32, p: Place) -> bool
     }
 }
 
-fn number_ok(f: &[u8], h: Header, j: u32) -> bool
-    ensures { λ r. ⌜ r ≡ numberOk (now (f .entry)) h j ⌝ }
+fn number_ok(h: Header, s: Symbol) -> bool
+    ensures { λ r. ⌜ r ≡ placeWithin (h .sections) (placeOf s) ⌝ }
 {
-    place_within(h.sections as u32, object::symbol_place(f, h, j))
+    place_within(h.sections as u32, object::place_of(s))
 }
 
-fn number_ok_at(f: &[u8], h: Header, left: u8, j: u32) -> bool
-    requires { ⌜ left ≡ auxiliariesLeft (now f) h j ⌝ }
+// Of record j, which is s; `left` auxiliary ones stand from it on.
+fn number_ok_at(f: &[u8], h: Header, s: Symbol, left: u8, j: u32) -> bool
+    requires { ⌜ (left ≡ auxiliariesLeft (now f) h j) × (s ≡ symbolOf (now f) h j) ⌝ }
     ensures { λ r. ⌜ r ≡ okAt numberOk (now (f .entry)) h j ⌝ }
 {
     let own = left == 0;
-    if own { number_ok(f, h, j) } else { true }
+    if own { number_ok(h, s) } else { true }
 }
 
 // 7: no symbol's section number is above the count.
@@ -48,10 +50,11 @@ pub fn numbers_ok(f: &[u8], h: Header) -> bool
     let mut left: u8 = 0;
     let mut j: u32 = 0;
     while j < n {
-        if !number_ok_at(f, h, left, j) {
+        let s = object::read_symbol(f, h, j);
+        if !number_ok_at(f, h, s, left, j) {
             return false;
         }
-        left = object::left_after(f, h, j, left);
+        left = object::left_by(left, s.auxiliaries);
         j += 1;
     }
     true

@@ -10,8 +10,9 @@ use borrow.Author.Tests.{eq-eqb, ne-eqb}
 use Rattle.util.specs.Pick.{pick}
 use Rattle.le.specs.Le.{splice, splice-past, fill-none, fill-again, fill-end}
 use Rattle.object.specs.declared.Header.{Header}
-use Rattle.object.specs.Symbol.{kind, symbolPlace, auxiliariesLeft, primary}
-use Rattle.object.specs.SymbolLaws.{left-none, left-again}
+use Rattle.object.specs.declared.Symbol.{Symbol}
+use Rattle.object.specs.Symbol.{symbolOf, kindOf, placeOf, kind, symbolPlace, auxiliariesLeft, primary}
+use Rattle.object.specs.SymbolLaws.{left-none}
 use Rattle.kinds.specs.declared.SymbolKind.{SymbolKind}
 use Rattle.kinds.specs.declared.Place.{Place}
 use Rattle.rules.specs.declared.Rule.{Rule}
@@ -22,7 +23,7 @@ use Rattle.names.specs.Name.{sectionText, symbolText}
 use Rattle.homes.specs.declared.Home.{Home}
 use Rattle.homes.specs.declared.Home.the-variants.{Loaded, Undef, Nowhere}
 use Rattle.homes.specs.Home.{namedRecord}
-use Rattle.codes.specs.Code.{AUXILIARY, REFUSED, SLOT, EXTERN, UNDEF-RECORD, UNDEF-EXTERN, SPAN, HOMES, RECORDS, sectionIsNamed, someSectionNamed, namedCode, ruleCode, codeByName, symbolCode, codeOf, codesTo, isExtern, putsIn}
+use Rattle.codes.specs.Code.{AUXILIARY, REFUSED, SLOT, EXTERN, UNDEF-RECORD, UNDEF-EXTERN, SPAN, HOMES, RECORDS, sectionIsNamed, someSectionNamed, symbolRule, namedCode, ruleCode, codeByName, symbolCode, codeOf, codesTo, isExtern, putsIn}
 
 -- ---- one code of the list
 module _ (l : List ℕ) (at v : ℕ) where
@@ -64,26 +65,32 @@ module _ (f : List ℕ) (h : Header) (name : List ℕ) (x : Home) (is : x ≡ na
 pub ruleset by-name = (by-loaded, by-undef, by-undef-extern, by-slot, by-extern)
 
 -- ---- by the rule
-module _ (f : List ℕ) (h : Header) (j : ℕ) (k : SymbolKind) (p : Place) (r : Rule) (is : k ≡ kind f h j) (at : p ≡ symbolPlace f h j) (by : r ≡ ruleOf k p) where
+module _ (f : List ℕ) (h : Header) (s : Symbol) (j : ℕ) (k : SymbolKind) (p : Place) (r : Rule) (read : s ≡ symbolOf f h j) (is : k ≡ kindOf s) (place : p ≡ placeOf s) (by : r ≡ ruleOf k p) where
+  rule-is : r ≡ symbolRule f h j
+  rule-is =
+      let x : k ≡ kind f h j = rw read at is in
+      let y : p ≡ symbolPlace f h j = rw read at place in
+      rw (← x, ← y) by
+
   pub code-section : (n : ℕ) → r ≡ Section n → n % SPAN + HOMES ≡ symbolCode f h j
   unfolding ruleCode
-  code-section n e = rw (← is, ← at, ← by, e) (omega arith)
+  code-section n e = rw (← rule-is, e) (omega arith)
 
   pub code-extern : r ≡ Extern → EXTERN ≡ symbolCode f h j
   unfolding ruleCode
-  code-extern e = rw (← is, ← at, ← by, e)
+  code-extern e = rw (← rule-is, e)
 
   pub code-slot : r ≡ Slot → SLOT ≡ symbolCode f h j
   unfolding ruleCode
-  code-slot e = rw (← is, ← at, ← by, e)
+  code-slot e = rw (← rule-is, e)
 
-  pub code-name : (s : List ℕ) (c : ℕ) → r ≡ Name → s ≡ symbolText f h j → c ≡ codeByName f h s → c ≡ symbolCode f h j
+  pub code-name : (t : List ℕ) (c : ℕ) → r ≡ Name → t ≡ symbolText f h j → c ≡ codeByName f h t → c ≡ symbolCode f h j
   unfolding ruleCode
-  code-name s c e n q = rw (← is, ← at, ← by, e, ← n) q
+  code-name t c e n q = rw (← rule-is, e, ← n) q
 
   pub code-refused : r ≡ Refused → REFUSED ≡ symbolCode f h j
   unfolding ruleCode
-  code-refused e = rw (← is, ← at, ← by, e)
+  code-refused e = rw (← rule-is, e)
 
 pub ruleset by-rule = (code-section, code-extern, code-slot, code-name, code-refused)
 
@@ -104,7 +111,7 @@ pub code-again : (f : List ℕ) (h : Header) (l b b′ : List ℕ) (j left x : �
 unfolding primary
 code-again f h l b b′ j left x e q m d = fill-again (codeOf f h) l b b′ j x e (rw (← q) m) d
 
-pub ruleset code-loop = (left-none, left-again, fill-none, code-again, fill-end)
+pub ruleset code-loop = (left-none, fill-none, code-again, fill-end)
 
 pub puts-is : (codes : List ℕ) (j c : ℕ) {r : Bool} → r ≡ isExtern c → c ≡ getD codes j 0 → r ≡ putsIn codes j
 puts-is codes j c e q = rw (← q) e

@@ -1,6 +1,7 @@
 // What each symbol record comes to when a relocation names it, found once and kept in 16 bits.
 use homes::Home;
 use object::Header;
+use object::Symbol;
 use rules::Rule;
 ghost use mathlib.Core.Path.{_≡_};
 ghost use mathlib.Core.List.{[], _∷_};
@@ -8,6 +9,7 @@ ghost use lib.Dec.{eqb};
 ghost use lib.ListN.{getD};
 ghost use Rattle.util.specs.Pick.{pick};
 ghost use Rattle.le.specs.Le.{splice};
+ghost use Rattle.object.specs.Symbol.{symbolOf};
 ghost use Rattle.codes.specs.Code.{AUXILIARY, sectionIsNamed, someSectionNamed, codeByName, symbolCode, codesTo, isExtern, putsIn};
 
 // Codes that stand for one thing; 0 is no record. This one: an auxiliary record, which is refused.
@@ -105,12 +107,12 @@ fn code_by_name(f: &[u8], h: Header, name: &[u8]) -> u16
     }
 }
 
-// By the rule for its kind and place.
-fn symbol_code(f: &[u8], h: Header, j: u32) -> u16
+// By the rule for its kind and place; s is record j.
+fn symbol_code(f: &[u8], h: Header, s: Symbol, j: u32) -> u16
+    requires { ⌜ s ≡ symbolOf (now f) h j ⌝ }
     ensures { λ r. ⌜ r ≡ symbolCode (now (f .entry)) h j ⌝ }
 {
-    let place = object::symbol_place(f, h, j);
-    match rules::rule_of(object::symbol_kind(f, h, j), place) {
+    match rules::rule_of(object::kind_of(s), object::place_of(s)) {
         Rule::Section(n) => (n % SPAN + HOMES) as u16,
         Rule::Extern => EXTERN,
         Rule::Slot => SLOT,
@@ -119,12 +121,13 @@ fn symbol_code(f: &[u8], h: Header, j: u32) -> u16
     }
 }
 
-// Of record j, where `left` auxiliary records stand from it on.
-fn record_code(f: &[u8], h: Header, j: u32, left: u8) -> u16
+// Of record j, which is s, where `left` auxiliary records stand from it on.
+fn record_code(f: &[u8], h: Header, s: Symbol, j: u32, left: u8) -> u16
+    requires { ⌜ s ≡ symbolOf (now f) h j ⌝ }
     ensures { λ r. ⌜ r ≡ pick (eqb left 0) (symbolCode (now (f .entry)) h j) AUXILIARY ⌝ }
 {
     if left == 0 {
-        symbol_code(f, h, j)
+        symbol_code(f, h, s, j)
     } else {
         AUXILIARY
     }
@@ -138,8 +141,9 @@ pub fn fill_codes(f: &[u8], h: Header, codes: &mut [u16])
     let mut left: u8 = 0;
     let mut j: u32 = 0;
     while j < n {
-        put_code(codes, j, record_code(f, h, j, left));
-        left = object::left_after(f, h, j, left);
+        let s = object::read_symbol(f, h, j);
+        put_code(codes, j, record_code(f, h, s, j, left));
+        left = object::left_by(left, s.auxiliaries);
         j += 1;
     }
 }

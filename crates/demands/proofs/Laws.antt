@@ -14,7 +14,7 @@ use Rattle.patch.specs.declared.answer.Patch.the-variants.{Applied, Refused}
 use Rattle.patch.specs.Fixes.{length-from}
 use Rattle.patch.specs.Patch.{Patches}
 use Rattle.demands.specs.Calls.{Call, patch, afterCall, answerTo, afterCalls, answersTo}
-use Rattle.demands.specs.Running.{CALL-BYTES, ANSWER-BYTES, callAt, callsTo, callsIn, answerWords, answerBytes, RunsCall, RunsTo, Runs, runs-are, after-one-more, answers-one-more, length-answers}
+use Rattle.demands.specs.Running.{CALL-BYTES, POSITION-AT, ANSWER-BYTES, callAt, callsTo, callsIn, answerWords, answerBytes, RunsCall, RunsTo, Runs, runs-are, after-one-more, answers-one-more, length-answers}
 
 -- ---- an answer
 pub answer-applied : (a : Patch) (p : Progress) (w at : ℕ) (l b : List ℕ) → a ≡ Applied p → w ≡ pick (p .done) 1 0 → b ≡ splice l at (wordBytes (0 ∷ p .position ∷ w ∷ []))
@@ -30,7 +30,7 @@ pub ruleset answering = (answer-applied, answer-refused)
 
 -- ---- a call
 pub call-is : (base : ℕ) (marks fixes words : List ℕ) (k number position : ℕ) (image image′ answers answers′ : List ℕ) (r : Patch)
-    → number ≡ get 8 words (CALL-BYTES * k) → position ≡ get 8 words (CALL-BYTES * k + 8) → Patches base marks fixes number position image image′ r
+    → number ≡ get 8 words (CALL-BYTES * k) → position ≡ get 8 words (CALL-BYTES * k + POSITION-AT) → Patches base marks fixes number position image image′ r
     → answers′ ≡ splice answers (ANSWER-BYTES * k) (wordBytes (answerWords r)) → RunsCall base marks fixes (callAt words k) (ANSWER-BYTES * k) image image′ answers answers′
 unfolding afterCall answerTo
 call-is base marks fixes words k number position image image′ answers answers′ r n p x a =

@@ -20,6 +20,7 @@ use Rattle.layout.specs.LayoutLaws.{ranges-share-none, undef-behind, undef-fits
 use Rattle.fixups.specs.Signed.{signed, slot-keeps}
 use Rattle.fixups.specs.Value.{isRelative}
 use Rattle.fixups.specs.ValueLaws.{Exact, relative-stays, other-rises, no-bit-lost}
+use Rattle.words.specs.Words.{wordOf}
 use Rattle.survey.specs.declared.answer.Counts.{Counts}
 use Rattle.survey.specs.declared.answer.Survey.the-variants.{Accepted}
 use Rattle.survey.specs.Survey.{surveyOf}
@@ -29,7 +30,8 @@ use Rattle.image.specs.LaidLaws.{length-laid}
 use Rattle.patch.specs.declared.answer.Patch.{Patch}
 use Rattle.patch.specs.Fixes.{fixCount, placeAt, bitsAt, valueAt, widthOf}
 use Rattle.patch.specs.Patch.{patchCode}
-use Rattle.limits.specs.Limits.{MAX-PAGES, MAX-BASE, EXTERN-BYTES}
+use Rattle.limits.specs.Limits.{MAX-PAGES, MAX-BASE}
+use Rattle.limits.specs.Records.{EXTERN-WORDS, ADDRESS}
 use Rattle.checks.specs.Checks.{baseOk}
 use Rattle.demands.specs.Calls.{Call, applied, afterCalls, answersTo}
 use Rattle.demands.specs.Origin.{fixupsOf, fixupAt, noFixup, slotsOf, fixupPlace, fixupWidth, fixupValue, undefAddress, slotValue, inSection, latest, originBy, origin, byteOf}
@@ -58,7 +60,7 @@ pub record AtLoad (f : List ℕ) (base : ℕ) (t : Lent) (calls : List Call) : T
   -- the section table has the range and the file range of each loaded section, and UNDEF; the extern table has the slots
   pub ranges-read : (i : ℕ) → i < headerOf f .sections → loaded f (headerOf f) i ≡ true → RangeRead f base (t .sections) i
   pub undef-read : UndefRead f base (t .sections)
-  pub slots-read : (e : ℕ) → e < slotsOf f → get 8 (t .externs) (EXTERN-BYTES * e) ≡ slotValue f base e
+  pub slots-read : (e : ℕ) → e < slotsOf f → wordOf EXTERN-WORDS (t .externs) e ADDRESS ≡ slotValue f base e
   -- the fix list is the load's fixups
   pub count : fixCount (t .fixes) ≡ length (fixupsOf f)
   pub places : (k : ℕ) → k < length (fixupsOf f) → placeAt (t .fixes) k ≡ fixupPlace f base k

@@ -24,7 +24,7 @@ use Rattle.names.specs.Bytes.{upToZero, sameBytes}
 use Rattle.names.specs.Name.{leftFrom, longSpan, spanAt}
 use Rattle.homes.specs.Home.{firstIn, isHome, homeStart, sectionHome, byNumber}
 use Rattle.layout.specs.Layout.{startAt}
-use Rattle.limits.specs.Limits.{FIXUP-BYTES, SKIP-BYTES, EXTERN-BYTES, SYMBOL-BYTES, SECTION-BYTES}
+use Rattle.limits.specs.Records.{FIXUP-BYTES, SKIP-BYTES, EXTERN-BYTES, SYMBOL-BYTES, SECTION-BYTES}
 use Rattle.externs.specs.Externs.{insertName, externStep}
 use Rattle.codes.specs.Puts.{putsBy, puts}
 use Rattle.externs.specs.Slot.{slotFrom}

@@ -11,7 +11,8 @@ use Rattle.arch.specs.Page.{PAGE-SIZE}
 use Rattle.le.specs.Le.{part, part-at, length-part}
 use Rattle.object.specs.Format.{headerOf}
 use Rattle.layout.specs.Layout.{startsTo, undefStart}
-use Rattle.limits.specs.Limits.{MAX-PAGES, MAX-EXTERNS, FIXUP-BYTES, EXTERN-BYTES, SECTION-BYTES}
+use Rattle.limits.specs.Limits.{MAX-PAGES, MAX-EXTERNS}
+use Rattle.limits.specs.Records.{FIXUP-BYTES, EXTERN-BYTES, SECTION-BYTES}
 use Rattle.survey.specs.declared.answer.Counts.{Counts}
 use Rattle.survey.specs.declared.answer.Survey.the-variants.{Accepted}
 use Rattle.load.specs.declared.answer.Load.the-variants.{Loaded}

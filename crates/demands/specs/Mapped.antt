@@ -17,7 +17,8 @@ use Rattle.pagemap.specs.Pages.{storageOk, spanMapped}
 use Rattle.aspace.specs.Space.{reached, spanMappedAt}
 use Rattle.object.specs.Format.{headerOf}
 use Rattle.object.specs.Section.{relocationCount}
-use Rattle.limits.specs.Limits.{MAX-PAGES, MAX-BASE, FIXUP-BYTES}
+use Rattle.limits.specs.Limits.{MAX-PAGES, MAX-BASE}
+use Rattle.limits.specs.Records.{FIXUP-BYTES}
 use Rattle.fixups.specs.declared.Fix.{Fix}
 use Rattle.fixups.specs.Value.{valueOf}
 use Rattle.survey.specs.Survey.{outcomes}

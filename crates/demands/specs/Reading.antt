@@ -10,9 +10,9 @@ use lib.ListN.{length, getD}
 use borrow.Author.Tests.{leb-true}
 use Rattle.util.specs.Pick.{pick, yes-no, and-left, and-right}
 use Rattle.util.specs.Prefix.{list-at, all-at}
-use Rattle.limits.specs.Limits.{MAX-FILE, MAX-BASE, SECTION-BYTES, EXTERN-BYTES}
+use Rattle.limits.specs.Limits.{MAX-FILE, MAX-BASE}
+use Rattle.limits.specs.Records.{SECTION-WORDS, SECTION-BYTES, SECTION-START, SECTION-END, SECTION-FILE-START, SECTION-FILE-END, EXTERN-WORDS, ADDRESS}
 use Rattle.arch.specs.Page.{PAGE-SIZE}
-use Rattle.le.specs.Le.{get}
 use Rattle.object.specs.declared.Header.{Header}
 use Rattle.object.specs.Format.{HEADER-SIZE, headerOf, addressField}
 use Rattle.object.specs.Section.{loaded, uninitialized, fileStart, fileEnd, rangeLength}
@@ -20,6 +20,7 @@ use Rattle.bounds.specs.Bounds.{sizeOk, bytesOk, dataOk, relocationsOk, section
 use Rattle.layout.specs.Layout.{startAt, undefStart, recordOf, startsTo}
 use Rattle.layout.specs.LayoutLaws.{undef-behind, undef-fits, starts-fit}
 use Rattle.externs.specs.Externs.{externs}
+use Rattle.words.specs.Words.{wordOf}
 use Rattle.tables.specs.TableLaws.{SectionAt, UndefAt, ExternAt, sections-fill, section-read, undef-read, length-externs, extern-read}
 use Rattle.survey.specs.declared.answer.Counts.{Counts}
 use Rattle.survey.specs.declared.answer.Survey.the-variants.{Accepted}
@@ -31,15 +32,15 @@ use Rattle.demands.specs.Mapped.{splice-self}
 
 -- in a section table at a base: the record of section i has its range and its file range
 pub record RangeRead (f : List ℕ) (base : ℕ) (table : List ℕ) (i : ℕ) : Type 0 where
-  pub start : get 8 table (SECTION-BYTES * recordOf f (headerOf f) i) ≡ sectionAddress f base i
-  pub end : get 8 table (SECTION-BYTES * recordOf f (headerOf f) i + 8) ≡ sectionAddress f base i + rangeLength f (headerOf f) i
-  pub file-start : get 8 table (SECTION-BYTES * recordOf f (headerOf f) i + 16) ≡ fileStart f (headerOf f) i
-  pub file-end : get 8 table (SECTION-BYTES * recordOf f (headerOf f) i + 24) ≡ fileEnd f (headerOf f) i
+  pub start : wordOf SECTION-WORDS table (recordOf f (headerOf f) i) SECTION-START ≡ sectionAddress f base i
+  pub end : wordOf SECTION-WORDS table (recordOf f (headerOf f) i) SECTION-END ≡ sectionAddress f base i + rangeLength f (headerOf f) i
+  pub file-start : wordOf SECTION-WORDS table (recordOf f (headerOf f) i) SECTION-FILE-START ≡ fileStart f (headerOf f) i
+  pub file-end : wordOf SECTION-WORDS table (recordOf f (headerOf f) i) SECTION-FILE-END ≡ fileEnd f (headerOf f) i
 
 -- the last record is UNDEF's, one page
 pub record UndefRead (f : List ℕ) (base : ℕ) (table : List ℕ) : Type 0 where
-  pub start : get 8 table (SECTION-BYTES * recordOf f (headerOf f) (headerOf f .sections)) ≡ undefAddress f base
-  pub end : get 8 table (SECTION-BYTES * recordOf f (headerOf f) (headerOf f .sections) + 8) ≡ undefAddress f base + PAGE-SIZE
+  pub start : wordOf SECTION-WORDS table (recordOf f (headerOf f) (headerOf f .sections)) SECTION-START ≡ undefAddress f base
+  pub end : wordOf SECTION-WORDS table (recordOf f (headerOf f) (headerOf f .sections)) SECTION-END ≡ undefAddress f base + PAGE-SIZE
 
 module _ (f : List ℕ) (c : Counts) (accepted : surveyOf f ≡ Accepted c) (base : ℕ) (low : base ≤ MAX-BASE) where
   abbrev h : Header
@@ -76,9 +77,9 @@ module _ (f : List ℕ) (c : Counts) (accepted : surveyOf f ≡ Accepted c) (bas
     sections-room : SECTION-BYTES * (recordOf f h (h .sections) + 1) ≤ length (sectionsOf f base)
     sections-room = let e = sections-fill f h base (startsTo f h (h .sections)) (undefStart f h) in omega arith
 
-    section-words : SectionAt (sectionsOf f base) (SECTION-BYTES * recordOf f h i) f h base (startsTo f h (h .sections)) i
+    section-words : SectionAt (sectionsOf f base) (recordOf f h i) f h base (startsTo f h (h .sections)) i
     section-words =
-        subst (λ (t : List ℕ). SectionAt t (SECTION-BYTES * recordOf f h i) f h base (startsTo f h (h .sections)) i) (splice-self (sectionsOf f base))
+        subst (λ (t : List ℕ). SectionAt t (recordOf f h i) f h base (startsTo f h (h .sections)) i) (splice-self (sectionsOf f base))
         (section-read f h base (startsTo f h (h .sections)) (undefStart f h) (sectionsOf f base) sections-room i inside loads)
 
     -- the record of each loaded section has its range and its file range
@@ -98,10 +99,10 @@ module _ (f : List ℕ) (c : Counts) (accepted : surveyOf f ≡ Accepted c) (bas
           file-end = w .fileTo ∙ omega arith;
         }
 
-  undef-words : UndefAt (sectionsOf f base) (SECTION-BYTES * recordOf f h (h .sections)) base (undefStart f h)
+  undef-words : UndefAt (sectionsOf f base) (recordOf f h (h .sections)) base (undefStart f h)
   undef-words =
       let e = sections-fill f h base (startsTo f h (h .sections)) (undefStart f h) in
-      subst (λ (t : List ℕ). UndefAt t (SECTION-BYTES * recordOf f h (h .sections)) base (undefStart f h)) (splice-self (sectionsOf f base))
+      subst (λ (t : List ℕ). UndefAt t (recordOf f h (h .sections)) base (undefStart f h)) (splice-self (sectionsOf f base))
       (undef-read f h base (startsTo f h (h .sections)) (undefStart f h) (sectionsOf f base) (omega arith))
 
   -- and the last one UNDEF's page
@@ -111,14 +112,14 @@ module _ (f : List ℕ) (c : Counts) (accepted : surveyOf f ≡ Accepted c) (bas
       let u = undef-fits f h (pages-few f c accepted) in
       record { start = w .start ∙ omega arith; end = w .end ∙ omega arith }
 
-  slot-words : (e : ℕ) → e < slotsOf f → ExternAt (externsOf f base) (EXTERN-BYTES * e) f h base (undefStart f h) (externs f h) e
+  slot-words : (e : ℕ) → e < slotsOf f → ExternAt (externsOf f base) e f h base (undefStart f h) (externs f h) e
   slot-words e l =
       let n = length-externs f h base (undefStart f h) (externs f h) (length (externs f h)) in
-      subst (λ (t : List ℕ). ExternAt t (EXTERN-BYTES * e) f h base (undefStart f h) (externs f h) e) (splice-self (externsOf f base))
+      subst (λ (t : List ℕ). ExternAt t e f h base (undefStart f h) (externs f h) e) (splice-self (externsOf f base))
       (extern-read f h base (undefStart f h) (externs f h) (externsOf f base) (length (externs f h)) e (omega arith) l)
 
   -- each extern name's record has its slot's address
-  pub slot-is-read : (e : ℕ) → e < slotsOf f → get 8 (externsOf f base) (EXTERN-BYTES * e) ≡ slotValue f base e
+  pub slot-is-read : (e : ℕ) → e < slotsOf f → wordOf EXTERN-WORDS (externsOf f base) e ADDRESS ≡ slotValue f base e
   slot-is-read e l =
       let w = slot-words e l in
       let u = undef-fits f h (pages-few f c accepted) in

@@ -24,9 +24,13 @@ use Rattle.demands.specs.Demand3.{appliedTo, answersAfter, Demand3, dema
 abbrev pub CALL-BYTES : ℕ
 CALL-BYTES = 16
 
+-- where its position stands, in bytes; the number stands first
+abbrev pub POSITION-AT : ℕ
+POSITION-AT = 8
+
 -- call k, from 0
 abbrev pub callAt : List ℕ → ℕ → Call
-callAt words k = patch (get 8 words (CALL-BYTES * k)) (get 8 words (CALL-BYTES * k + 8))
+callAt words k = patch (get 8 words (CALL-BYTES * k)) (get 8 words (CALL-BYTES * k + POSITION-AT))
 
 -- the first k calls
 unfoldable pub callsTo : List ℕ → ℕ → List Call

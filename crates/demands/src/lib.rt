@@ -12,6 +12,9 @@ ghost use Rattle.demands.specs.Running.{ANSWER-BYTES, callAt, callsIn, a
 // The bytes of a call, and of its answer.
 const CALL_BYTES: usize = 16;
 
+// Where its position stands; the number stands first.
+const POSITION_AT: usize = 8;
+
 const ANSWER_BYTES: usize = 24;
 
 fn flag(done: bool) -> u64
@@ -49,7 +52,7 @@ fn run_call(
         ⌜ RunsCall (base .0) (now (marks .entry)) (now (fixes .entry)) (callAt (now (calls .entry)) k) (ANSWER-BYTES * k) (now (image .entry)) (now (image .exit)) (now (answers .entry)) (now (answers .exit)) ⌝ }
 {
     let number = le::u64_at(calls, CALL_BYTES * k);
-    let position = le::u64_at(calls, CALL_BYTES * k + 8);
+    let position = le::u64_at(calls, CALL_BYTES * k + POSITION_AT);
     let answer = patch::patch(base, image, marks, fixes, number, position);
     write_answer(answer, answers, ANSWER_BYTES * k);
 }

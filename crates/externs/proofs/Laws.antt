@@ -4,15 +4,16 @@ use mathlib.Core.Path.{_≡_, refl, sym, ap, _∙_}
 use mathlib.Core.Bool.{Bool, true, false, not}
 use mathlib.Core.List.{List, [], _∷_, _++_, append-assoc, append-nil}
 use mathlib.Core.Logic.{_⊎_, inl, inr, ⊎-elim}
-use Prim.Native.Nat.{ℕ, zero, suc, _+_, _-_, _/_, _%_, _≤_, _<_, min}
-use native.Mathlib.Nat.{not-suc-le-zero, le-of-suc-le-suc}
+use Prim.Native.Nat.{ℕ, zero, suc, _+_, _-_, _*_, _/_, _%_, _^_, _≤_, _<_, min}
+use native.Mathlib.Nat.{not-suc-le-zero, le-of-suc-le-suc, one-mul, zero-div, add-div-right, add-mul-div-left, pow-suc}
 use native.Mathlib.Numerals.{add-one, sub-one}
 use native.Mathlib.Omega.{arith}
-use borrow.Author.Tests.{eq-eqb, ne-eqb, eqb-true, lt-ltb, le-ltb, lt-leb, le-leb}
-use lib.Dec.{eqb, ltb, leb}
+use borrow.Author.Tests.{eq-eqb, ne-eqb, eqb-true, eqb-false, lt-leb, le-leb, not-true, not-false}
+use lib.Dec.{eqb, leb, lit<}
 use lib.ListN.{length, getD, take, drop, set, getD-replicate, List·getD-eq-default, length-append, length-drop, drop-of-length-le, length-set, replicate, length-replicate, length-take, replicate-append-replicate}
+use lib.Pow.{pow-pos, pow-lt, pow-add, shl-exact, shr-shr}
 use lib.Seq.{drop-cons, take-suc, take-take, length-take-le, getD-take, take-set-le, take-set-lt, drop-set-lt, getD-set-same, set-split, split-at, take-at, append-snoc, sets-eq}
-use Rattle.util.specs.Pick.{pick, le-or-lt}
+use Rattle.util.specs.Pick.{pick, le-or-lt, three-ways}
 use Rattle.util.specs.Prefix.{length-list}
 use Rattle.util.specs.Fold.{foldRecords, foldSections}
 use Rattle.object.specs.declared.Header.{Header}
@@ -34,11 +35,11 @@ use Rattle.limits.specs.Limits.{MAX-EXTERNS, EXTERN-ROOM}
 use Rattle.externs.specs.Externs.{orderOf, insertName, externStep, externRecords, externsTo, Holds, namesOf, slotWords}
 use Rattle.externs.specs.ExternLaws.{records-grow, sections-grow, over-length, count-room, count-list}
 use Rattle.externs.specs.Held.{held, putAt, lowerAt, Placed, Inserted}
-use Rattle.externs.specs.Keys.{symbolKey, keysOf, InStep, PutBoth, KeysRise, Skipped}
+use Rattle.externs.specs.Keys.{symbolKey, keysOf, InStep, PutBoth, KeysRise, Skipped, Keyed}
 use Rattle.externs.specs.Bisect.{nameOrder, bySide, halves}
 use Rattle.externs.specs.BisectLaws.{bisect-slot}
 use Rattle.externs.specs.Inserting.{Rising, min-name, rise, keep, put-in, put-again, rising-at}
-use Rattle.externs.specs.Seen.{SEEN, NOTED, isSeen, noted, Seen, Kept, KeptFor}
+use Rattle.externs.specs.Seen.{isSeen, noted, Seen, Kept, KeptFor}
 use Rattle.externs.specs.Slot.{slotOf}
 use Rattle.externs.specs.Slotted.{foundCode, takesSlot, slottedCode, slottedAt, slottedTo, slotted, codesAfter}
 use Rattle.codes.specs.Code.{NO-SLOT, SPAN, SLOTS}
@@ -173,6 +174,16 @@ module _ (f : List ℕ) (h : Header) where
   keys-at (x ∷ xs) zero k = refl
   keys-at (x ∷ xs) (suc p) k = keys-at xs p (le-of-suc-le-suc k)
 
+  keys-length : (xs : List ℕ) → length (keysOf f h xs) ≡ length xs
+  unfolding keysOf
+  keys-length [] = refl
+  keys-length (x ∷ xs) = ap suc (keys-length xs)
+
+  -- there are as many keys as symbols
+  step-room : (l ks : List ℕ) (n : ℕ) → n ≤ length l → InStep f h l ks n → n ≤ length ks
+  unfolding InStep held
+  step-room l ks n room e = omega (arith, ap length e, keys-length (take n l), length-take-le n l room, length-take n ks)
+
   pub key-of : (j k : ℕ) (s : Span) → k ≡ key KEY-BYTES (spanText f s) → s ≡ symbolSpan f h j → k ≡ symbolKey f h j
   key-of j k s e d = rw (← d) e
 
@@ -200,42 +211,94 @@ module _ (f : List ℕ) (h : Header) where
   step-none l ks = refl
 
 -- ---- the table of symbols that were put
-pub seen-cell : (s : List ℕ) (j c : ℕ) → c ≡ getD s (j % SEEN) 0 → eqb c (j + 1) ≡ isSeen s j
-seen-cell s j c e = rw e
+pub seen-bit : (s : List ℕ) (j b : ℕ) → b ≡ getD s (j / 8) 0 → eqb (b / 2 ^ (j % 8) % 2) 1 ≡ isSeen s j
+seen-bit s j b e = rw e
 
-module _ (s : List ℕ) (j : ℕ) where
-  pub note-new : (s′ : List ℕ) → j < NOTED → s′ ≡ splice s (j % SEEN) ((j + 1) ∷ []) → s′ ≡ noted s j
+-- a bit that is added to a number changes none below it,
+low-bits : (b m n : ℕ) → m < n → (b + 2 ^ n) / 2 ^ m % 2 ≡ b / 2 ^ m % 2
+low-bits b m n h =
+    let d : ℕ = n - m - 1 in
+    let z : m + suc d ≡ n = omega arith in
+    let e : 2 ^ n ≡ 2 ^ m * (2 ^ d * 2) = ap (λ (k : ℕ). 2 ^ k) (sym z) ∙ pow-add 2 m (suc d) ∙ ap (λ (k : ℕ). 2 ^ m * k) (pow-suc 2 d) in
+    rw (e, add-mul-div-left b (2 ^ d * 2) (pow-pos m)) (omega arith)
+
+-- and where it was not set none above it
+high-bits : (b m n : ℕ) → n < m → b / 2 ^ n % 2 ≡ 0 → (b + 2 ^ n) / 2 ^ m % 2 ≡ b / 2 ^ m % 2
+high-bits b m n h clear =
+    let d : ℕ = m - n - 1 in
+    let z : m ≡ n + (1 + d) = omega arith in
+    let up : (x : ℕ) → x / 2 ^ n / 2 / 2 ^ d ≡ x / 2 ^ m = λ x. shr-shr (x / 2 ^ n) 1 d ∙ shr-shr x n (1 + d) ∙ ap (λ (k : ℕ). x / 2 ^ k) (sym z) in
+    let e : (b + 2 ^ n) / 2 ^ n / 2 ≡ b / 2 ^ n / 2 = rw (add-div-right b (pow-pos n)) (omega arith) in
+    rw (← up (b + 2 ^ n), ← up b, e)
+
+-- nothing is shifted out
+bit-of : (j : ℕ) → 1 * 2 ^ (j % 8) % 2 ^ 8 ≡ 2 ^ (j % 8)
+bit-of j = shl-exact {a = 1} 1 (j % 8) 8 (lit< tt) (omega arith) ∙ one-mul _
+
+clear-bit : (s : List ℕ) (j : ℕ) → isSeen s j ≡ false → getD s (j / 8) 0 / 2 ^ (j % 8) % 2 ≡ 0
+clear-bit s j e = let z = eqb-false (getD s (j / 8) 0 / 2 ^ (j % 8) % 2) 1 e in omega arith
+
+module _ (s : List ℕ) (j : ℕ) (r : Bool) (is : r ≡ isSeen s j) where
+  pub note-past : not r ≡ false → s ≡ noted s j
   unfolding noted pick
-  note-new s′ k e = rw (lt-ltb j NOTED k) e
+  note-past t = rw (← is, not-false r t)
 
-  pub note-past : NOTED ≤ j → s ≡ noted s j
-  unfolding noted pick
-  note-past k = rw (le-ltb j NOTED k)
+  module _ (t : not r ≡ true) (b : ℕ) (here : b ≡ getD s (j / 8) 0) where
+    -- the sum is a byte: it has no bit above those of b
+    pub note-fits : b < 2 ^ 8 → b + 1 * 2 ^ (j % 8) % 2 ^ 8 < 2 ^ 8
+    note-fits k =
+        let e : 1 * 2 ^ (j % 8) % 2 ^ 8 ≡ 2 ^ (j % 8) = bit-of j in
+        let l : 2 ^ (j % 8) < 2 ^ 8 = pow-lt {i = j % 8} {j = 8} (omega arith) in
+        let z = high-bits b 8 (j % 8) (omega arith) (rw here (clear-bit s j (sym is ∙ not-true r t))) in
+        omega arith
 
-pub ruleset notes = (note-new, note-past)
+    pub note-new : (s′ : List ℕ) → s′ ≡ splice s (j / 8) ((b + 1 * 2 ^ (j % 8) % 2 ^ 8) ∷ []) → s′ ≡ noted s j
+    unfolding noted pick
+    note-new s′ e = rw (← is, not-true r t, ← here, ← bit-of j) e
 
-set-cell : (s : List ℕ) (at v i : ℕ) → (getD (set s at v) i 0 ≡ v) ⊎ (getD (set s at v) i 0 ≡ getD s i 0)
+pub ruleset notes = (note-past, note-fits, note-new)
+
+-- a list with v at a place: it stands there, or what stood there before
+set-cell : (s : List ℕ) (at v i : ℕ) → ((i ≡ at) × (getD (set s at v) i 0 ≡ v)) ⊎ (getD (set s at v) i 0 ≡ getD s i 0)
 set-cell [] at v i = inr refl
-set-cell (y ∷ s) zero v zero = inl refl
+set-cell (y ∷ s) zero v zero = inl (refl, refl)
 set-cell (y ∷ s) zero v (suc i) = inr refl
 set-cell (y ∷ s) (suc at) v zero = inr refl
-set-cell (y ∷ s) (suc at) v (suc i) = set-cell s at v i
+set-cell (y ∷ s) (suc at) v (suc i) = ⊎-elim (λ p. inl (ap suc (p .0), p .1)) (λ e. inr e) (set-cell s at v i)
 
--- a cell has what it had, or j
-noted-cell : (s : List ℕ) (j i x : ℕ) → getD (noted s j) i 0 ≡ suc x → (x ≡ j) ⊎ (getD s i 0 ≡ suc x)
+-- what is seen once j is noted is j, or was seen before
+noted-seen : (s : List ℕ) (j x : ℕ) → isSeen (noted s j) x ≡ true → (x ≡ j) ⊎ (isSeen s x ≡ true)
 unfolding noted splice pick
-noted-cell s j i x e = by-size (ltb j NOTED) e
+noted-seen s j x = by-bit (isSeen s j) refl
   where
-    by-size : (b : Bool) → getD (pick b (splice s (j % SEEN) ((j + 1) ∷ [])) s) i 0 ≡ suc x → (x ≡ j) ⊎ (getD s i 0 ≡ suc x)
-    by-size true q = ⊎-elim (λ z. inl (omega arith)) (λ z. inr (sym z ∙ q)) (set-cell s (j % SEEN) (j + 1) i)
-    by-size false q = inr q
+    b : ℕ
+    b = getD s (j / 8) 0
+
+    v : ℕ
+    v = b + 2 ^ (j % 8)
+
+    was : x / 8 ≡ j / 8 → getD (set s (j / 8) v) (x / 8) 0 ≡ v → isSeen (set s (j / 8) v) x ≡ true → v / 2 ^ (x % 8) % 2 ≡ b / 2 ^ (x % 8) % 2 → isSeen s x ≡ true
+    was here e q same = rw (here, ← same) (rw e at q)
+
+    by-bit : (r : Bool) → isSeen s j ≡ r → isSeen (pick r s (splice s (j / 8) (v ∷ []))) x ≡ true → (x ≡ j) ⊎ (isSeen s x ≡ true)
+    by-bit true e q = inr q
+    by-bit false e q =
+        ⊎-elim
+        (λ p. ⊎-elim (λ k. inr (was (p .0) (p .1) q (low-bits b (x % 8) (j % 8) k)))
+        (⊎-elim (λ k. let z = p .0 in inl (omega arith)) (λ k. inr (was (p .0) (p .1) q (high-bits b (x % 8) (j % 8) k (clear-bit s j e)))))
+        (three-ways (x % 8) (j % 8)))
+        (λ z. inr (rw z at q)) (set-cell s (j / 8) v (x / 8))
 
 module _ (f : List ℕ) (h : Header) where
   pub seen-none : (n : ℕ) → Seen f h (replicate n 0) []
   unfolding Seen
-  seen-none n i j e =
-      ⊎-elim (λ k. let z = List·getD-eq-default (replicate {A = ℕ} n 0) 0 {n = i} (rw (length-replicate {A = ℕ} n 0) k) in absurd (omega arith))
-      (λ k. let z = getD-replicate {A = ℕ} n i 0 0 k in absurd (omega arith)) (le-or-lt n i)
+  seen-none n j q =
+      let e : getD (replicate {A = ℕ} n 0) (j / 8) 0 ≡ 0 =
+      ⊎-elim (λ k. List·getD-eq-default (replicate {A = ℕ} n 0) 0 {n = j / 8} (rw (length-replicate {A = ℕ} n 0) k)) (λ k. getD-replicate {A = ℕ} n (j / 8) 0 0 k) (le-or-lt n (j / 8))
+      in
+      let z : 0 / 2 ^ (j % 8) % 2 ≡ 1 = eqb-true (0 / 2 ^ (j % 8) % 2) 1 (rw e at q) in
+      let o : 0 / 2 ^ (j % 8) ≡ 0 = zero-div (2 ^ (j % 8)) in
+      absurd (omega arith)
 
   module _ (l ks s : List ℕ) where
     pub table-none : Seen f h s [] → Kept f h l ks s 0
@@ -265,8 +328,7 @@ module _ (f : List ℕ) (h : Header) where
       pub add-seen : (b : Bool) → b ≡ isSeen s j → b ≡ true → Inserted f h j l n l n
       unfolding Seen
       add-seen b is t =
-          let e : getD s (j % SEEN) 0 ≡ suc j = rw add-one at (eqb-true (getD s (j % SEEN) 0) (j + 1) (sym is ∙ t)) in
-          record { room = omega arith; list = sym (put-again f h j (held n l) (k .rising) (k .known (j % SEEN) j e)) }
+          record { room = omega arith; list = sym (put-again f h j (held n l) (k .rising) (k .known j (sym is ∙ t))) }
 
       pub add-new : (l′ ks′ s′ : List ℕ) (r : ℕ) → Inserted f h j l n l′ r → InStep f h l′ ks′ r → s′ ≡ noted s j → Kept f h l′ ks′ s′ r
       unfolding Seen
@@ -274,8 +336,8 @@ module _ (f : List ℕ) (h : Header) where
           record {
             step = e;
             rising = rw (y .list) (rise f h j (held n l) (k .rising));
-            known = λ i x q. rw (y .list)
-                (⊎-elim (λ (z : x ≡ j). rw z (put-in f h j (held n l))) (λ z. keep f h j x (held n l) (k .known i x z)) (noted-cell s j i x (rw d at q)));
+            known = λ x q. rw (y .list)
+                (⊎-elim (λ (z : x ≡ j). rw z (put-in f h j (held n l))) (λ z. keep f h j x (held n l) (k .known x z)) (noted-seen s j x (rw d at q)));
           }
 
 pub ruleset tables = (table-none, table-over, table-count, table-of)
@@ -572,12 +634,35 @@ module _ (f : List ℕ) (h : Header) (name list : List ℕ) where
   pub half-none : (lo n : ℕ) (x : Found) → n ≤ 0 → halves f h list name n lo n ≡ x → Nothing ≡ x
   half-none lo n x k q = sym (halves-none n lo n k) ∙ q
 
--- in a list that rises the search finds the slot
-pub half-begin : (f : List ℕ) (h : Header) (list : List ℕ) (s : Span) (j : ℕ) → Rising f h list → s ≡ symbolSpan f h j
-    → halves f h list (spanText f s) (length list) 0 (length list) ≡ slotOf f h list (symbolText f h j)
-half-begin f h list s j r e = bisect-slot f h list (spanText f s) r ∙ ap (λ (x : Span). slotOf f h list (spanText f x)) e
+-- ---- in a list that rises, with its keys
+module _ (f : List ℕ) (h : Header) (list keys : List ℕ) (k : Keyed f h list keys) where
+  -- the search finds the slot
+  pub half-begin : (s : Span) (j : ℕ) → s ≡ symbolSpan f h j → halves f h list (spanText f s) (length list) 0 (length list) ≡ slotOf f h list (symbolText f h j)
+  half-begin s j e = bisect-slot f h list (spanText f s) (k .rising) ∙ ap (λ (x : Span). slotOf f h list (spanText f x)) e
 
-pub ruleset half-loop = (half-begin, half-left, half-here, half-right, half-none)
+  -- no entry lacks a key
+  beside : length list ≤ length keys
+  beside = step-room f h list keys (length list) (omega arith) (k .step)
+
+  -- the middle one has the key of its name
+  module _ (lo n : ℕ) (more : 0 < n) (fit : lo + n ≤ length list) where
+    pub half-room : lo + n / 2 < length keys
+    half-room = omega (arith, beside)
+
+    pub half-key : getD keys (lo + n / 2) 0 ≡ symbolKey f h (getD list (lo + n / 2) 0)
+    half-key = key-at f h list keys (length list) (lo + n / 2) (omega arith) (omega arith) beside (k .step)
+
+pub ruleset half-loop = (half-begin, half-left, half-here, half-right, half-none, half-room, half-key)
+
+-- the order of a name and an entry, by their keys
+module _ (f : List ℕ) (h : Header) (name : Span) (a x b : ℕ) (m : (i : ℕ) → Fits w8 (getD f i 0)) (mine : a ≡ key KEY-BYTES (spanText f name)) (its : b ≡ symbolKey f h x) where
+  pub entry-less : a < b → Less ≡ nameOrder f h (spanText f name) x
+  entry-less c = sym (key-less f (λ i. let b = m i in omega arith) name (symbolSpan f h x) (rw (mine, its) at c))
+
+  pub entry-greater : b < a → Greater ≡ nameOrder f h (spanText f name) x
+  entry-greater c = sym (key-greater f (λ i. let b = m i in omega arith) name (symbolSpan f h x) (rw (mine, its) at c))
+
+pub ruleset entry-ways = (entry-less, entry-greater)
 
 -- ---- the slots into the codes
 module _ (found : Found) where
@@ -675,9 +760,6 @@ module _ (f : List ℕ) (h : Header) (codes ys s t : List ℕ) (r : Names) (hold
       let list = count-list ys s r holds n e in
       ap (λ (x : List ℕ). take n x) (d ∙ cleared s n (omega arith)) ∙ take-at (take n s) (replicate (length s - n) 0) n (rw (length-take n s) (omega arith)) ∙ list
 
-  pub front-rises : (n : ℕ) (w : List ℕ) → r ≡ Count n → t ≡ splice s n (replicate (length s - n) 0) → w ≡ part t 0 n → Rising f h ys → Rising f h w
-  front-rises n w e d q g = rw (q, front-is n e d) g
-
   pub kept-few : (n : ℕ) (w codes′ : List ℕ) → r ≡ Count n → t ≡ splice s n (replicate (length s - n) 0) → w ≡ part t 0 n → codes′ ≡ slotted f h w codes
       → Collected f h codes ys t codes′ (Count n)
   unfolding slotWords codesAfter pick
@@ -694,5 +776,17 @@ module _ (f : List ℕ) (h : Header) (codes ys s t : List ℕ) (r : Names) (hold
         long = rw (w, length-append, length-replicate {A = ℕ}) (omega arith);
         slots = rw z (p ∙ ap (λ (x : List ℕ). slotted f h x codes) (q ∙ front-is n e d));
       }
+
+-- the words that are kept rise, and the first keys are theirs
+pub front-keyed : (f : List ℕ) (h : Header) (ys s t w ks seen : List ℕ) (r : Names) (n : ℕ) → KeptFor f h s ks seen r → Holds ys s r → length s ≡ EXTERN-ROOM → r ≡ Count n
+    → t ≡ splice s n (replicate (length s - n) 0) → w ≡ part t 0 n → Keyed f h w ks
+unfolding InStep held
+front-keyed f h ys s t w ks seen r n p holds room e d q =
+    let few = count-room ys s r holds n e in
+    let k : Kept f h s ks seen n = table-of f h s ks seen r n p e in
+    let z : w ≡ take n s = q ∙ front-is f h [] ys s t r holds room n e d ∙ sym (count-list ys s r holds n e) in
+    let m : length w ≡ n = ap length z ∙ length-take-le n s (omega arith) in
+    let all : take n w ≡ take n s = ap (take n) z ∙ take-take n n s (omega arith) in
+    record { rising = rw z (k .rising); step = rw (m, all) (k .step) }
 
 pub ruleset kept = (kept-over, kept-few)

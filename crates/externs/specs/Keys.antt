@@ -2,11 +2,12 @@
 use mathlib.Core.Path.{_≡_}
 use mathlib.Core.List.{List, [], _∷_}
 use Prim.Native.Nat.{ℕ, _+_, _≤_, _<_}
-use lib.ListN.{getD}
+use lib.ListN.{length, getD}
 use Rattle.object.specs.declared.Header.{Header}
 use Rattle.names.specs.Name.{symbolText}
 use Rattle.order.specs.Key.{KEY-BYTES, key}
 use Rattle.externs.specs.Held.{held, putAt}
+use Rattle.externs.specs.Inserting.{Rising}
 
 -- the key of symbol j's name
 abbrev pub symbolKey : List ℕ → Header → ℕ → ℕ
@@ -20,6 +21,11 @@ keysOf f h (j ∷ js) = symbolKey f h j ∷ keysOf f h js
 -- the first n keys are those of the first n symbols
 unfoldable pub InStep : List ℕ → Header → List ℕ → List ℕ → ℕ → Type 0
 InStep f h slots keys n = held n keys ≡ keysOf f h (held n slots)
+
+-- the whole list is sorted by name, and its keys are the first of `keys`
+pub record Keyed (f : List ℕ) (h : Header) (list keys : List ℕ) : Type 0 where
+  pub rising : Rising f h list
+  pub step : InStep f h list keys (length list)
 
 -- j and its key at p among the first n
 pub record PutBoth (slots keys : List ℕ) (n p j k : ℕ) (slots′ keys′ : List ℕ) : Type 0 where

@@ -1,9 +1,9 @@
--- Beside the list of externs a small table of symbols whose names are in it, which need no second insertion: what the parts of `collect` promise of it.
+-- Beside the list of externs a table of symbols whose names are in it, one bit each, which need no second insertion: what the parts of `collect` promise of it.
 use mathlib.Core.Path.{_≡_}
-use mathlib.Core.Bool.{Bool}
+use mathlib.Core.Bool.{Bool, true}
 use mathlib.Core.List.{List, [], _∷_}
-use Prim.Native.Nat.{ℕ, suc, _+_, _%_}
-use lib.Dec.{eqb, ltb}
+use Prim.Native.Nat.{ℕ, _+_, _/_, _%_, _^_}
+use lib.Dec.{eqb}
 use lib.ListN.{getD}
 use Rattle.util.specs.Pick.{pick}
 use Rattle.le.specs.Le.{splice}
@@ -14,25 +14,17 @@ use Rattle.externs.specs.Held.{held}
 use Rattle.externs.specs.Keys.{InStep}
 use Rattle.externs.specs.Inserting.{Rising, Has}
 
--- the cells of the table
-abbrev pub SEEN : ℕ
-SEEN = 1024
-
--- the symbols below this are noted: their number, counted from 1, fits a cell of 16 bits
-abbrev pub NOTED : ℕ
-NOTED = 0xFFFF
-
--- the cell of symbol j has its number
+-- symbol j's bit: bit j % 8 of byte j / 8
 abbrev pub isSeen : List ℕ → ℕ → Bool
-isSeen seen j = eqb (getD seen (j % SEEN) 0) (j + 1)
+isSeen seen j = eqb (getD seen (j / 8) 0 / 2 ^ (j % 8) % 2) 1
 
--- the table with symbol j in its cell, if it fits
+-- the table with it set, if there is room for it
 unfoldable pub noted : List ℕ → ℕ → List ℕ
-noted seen j = pick (ltb j NOTED) (splice seen (j % SEEN) ((j + 1) ∷ [])) seen
+noted seen j = pick (isSeen seen j) seen (splice seen (j / 8) ((getD seen (j / 8) 0 + 2 ^ (j % 8)) ∷ []))
 
 -- the names of the table's symbols are in the list
 unfoldable pub Seen : List ℕ → Header → List ℕ → List ℕ → Type 0
-Seen f h seen xs = (i j : ℕ) → getD seen i 0 ≡ suc j → Has f h j xs
+Seen f h seen xs = (j : ℕ) → isSeen seen j ≡ true → Has f h j xs
 
 -- the first n symbols are sorted by name, with their keys, and the table's are among them
 pub record Kept (f : List ℕ) (h : Header) (slots keys seen : List ℕ) (n : ℕ) : Type 0 where

@@ -10,20 +10,19 @@ ghost use Rattle.le.specs.Le.{splice};
 ghost use Rattle.object.specs.Section.{relocationCount};
 ghost use Rattle.codes.specs.Code.{putsIn};
 ghost use Rattle.names.specs.Name.{spanText, symbolText};
+ghost use Rattle.order.specs.Key.{KEY-BYTES, key};
 ghost use Rattle.limits.specs.Limits.{MAX-EXTERNS, EXTERN-ROOM};
 ghost use Rattle.externs.specs.Externs.{externRecords, externsBy, namesOf, slotWords, Holds};
 ghost use Rattle.externs.specs.Held.{held, putAt, lowerAt, Placed, Inserted};
-ghost use Rattle.externs.specs.Keys.{symbolKey, KeysRise, Skipped, PutBoth, InStep};
+ghost use Rattle.externs.specs.Keys.{symbolKey, KeysRise, Skipped, PutBoth, InStep, Keyed};
 ghost use Rattle.externs.specs.Bisect.{nameOrder};
 ghost use Rattle.externs.specs.Inserting.{Rising};
 ghost use Rattle.externs.specs.Seen.{isSeen, noted, Seen, Kept, KeptFor};
 ghost use Rattle.externs.specs.Slot.{slotOf};
 ghost use Rattle.externs.specs.Slotted.{foundCode, slottedCode, slottedAt, slotted, codesAfter};
 
-// The cells of the table of symbols whose names were put.
-const SEEN: usize = 1024;
-// Below it a symbol's number, counted from 1, fits a cell.
-const NOTED: u32 = 0xFFFF;
+// The bytes of the table of symbols whose names were put: one bit a symbol.
+const SEEN: usize = limits::MAX_SYMBOLS / 8;
 
 // How many keys are passed by a look at the last of them.
 const LEAP: usize = 8;
@@ -60,7 +59,7 @@ fn leap(keys: &[u64], n: usize, p: usize, key: u64) -> usize
 {
     let mut q = p;
     while LEAP <= n - q {
-        if key <= keys[q + 7] {
+        if key <= keys[q + (LEAP - 1)] {
             return q;
         }
         q += LEAP;
@@ -179,18 +178,22 @@ fn insert(f: &[u8], h: Header, slots: &mut [u32], keys: &mut [u64], n: usize, j:
     }
 }
 
-// Symbol j's cell has its number.
-fn is_seen(seen: &[u16], j: u32) -> bool
+// Symbol j's bit is set.
+fn is_seen(seen: &[u8], j: u32) -> bool
     ensures { λ r. ⌜ r ≡ isSeen (now (seen .entry)) j ⌝ }
 {
-    codes::code_at(seen, j % SEEN as u32) as u64 == j as u64 + 1
+    let byte = le::byte_at(seen, (j / 8) as usize);
+    (byte >> (j % 8)) % 2 == 1
 }
 
-fn note(seen: &mut [u16], j: u32)
+// Sets it, by adding it to the byte where it is not set.
+fn note(seen: &mut [u8], j: u32)
     ensures { λ _. ⌜ now (seen .exit) ≡ noted (now (seen .entry)) j ⌝ }
 {
-    if j < NOTED {
-        codes::put_code(seen, j % SEEN as u32, (j + 1) as u16);
+    if !is_seen(seen, j) {
+        let at = (j / 8) as usize;
+        let byte = le::byte_at(seen, at);
+        le::put_u8(seen, at, byte + (1 << (j % 8)));
     }
 }
 
@@ -200,7 +203,7 @@ fn add(
     h: Header,
     slots: &mut [u32],
     keys: &mut [u64],
-    seen: &mut [u16],
+    seen: &mut [u8],
     n: usize,
     j: u32,
 ) -> usize
@@ -224,7 +227,7 @@ fn add_records(
     codes: &[u16],
     slots: &mut [u32],
     keys: &mut [u64],
-    seen: &mut [u16],
+    seen: &mut [u8],
     n: usize,
     i: u32,
 ) -> Names
@@ -261,10 +264,11 @@ fn fill(
     codes: &[u16],
     slots: &mut [u32],
     keys: &mut [u64],
-    seen: &mut [u16],
+    seen: &mut [u8],
 ) -> Names
     requires { ⌜ (MAX-EXTERNS < length (now slots)) × (MAX-EXTERNS < length (now keys)) × Seen (now f) h (now seen) [] ⌝ }
     ensures { λ r. ⌜ Holds (externsBy (now (f .entry)) h (putsIn (now (codes .entry)))) (now (slots .exit)) r ⌝ }
+    ensures { λ r. ⌜ KeptFor (now (f .entry)) h (now (slots .exit)) (now (keys .exit)) (now (seen .exit)) r ⌝ }
 {
     let m = h.sections as u32;
     let mut count: usize = 0;
@@ -295,18 +299,34 @@ fn clear(slots: &mut [u32], from: usize)
     }
 }
 
+// The order of a name, whose key is `own`, and that of symbol x, whose key is `other`. Only names with equal keys are compared.
+// It does not call name_order, which the compiler puts in line only where `find` alone calls it.
+fn entry_order(f: &[u8], h: Header, name: Span, own: u64, x: u32, other: u64) -> Order
+    requires { ⌜ (own ≡ key KEY-BYTES (spanText (now f) name)) × (other ≡ symbolKey (now f) h x) ⌝ }
+    ensures { λ r. ⌜ r ≡ nameOrder (now (f .entry)) h (spanText (now (f .entry)) name) x ⌝ }
+{
+    if own < other {
+        return Order::Less;
+    }
+    if other < own {
+        return Order::Greater;
+    }
+    order::compare(f, name, names::symbol_span(f, h, x))
+}
+
 // The slot of symbol j's name: its index in the list of externs, which is sorted. Of the n entries from lo the middle one decides.
-fn slot_of(f: &[u8], h: Header, slots: &[u32], j: u32) -> Found
-    requires { ⌜ Rising (now f) h (now slots) ⌝ }
+fn slot_of(f: &[u8], h: Header, slots: &[u32], keys: &[u64], j: u32) -> Found
+    requires { ⌜ Keyed (now f) h (now slots) (now keys) ⌝ }
     ensures { λ r. ⌜ r ≡ slotOf (now (f .entry)) h (now (slots .entry)) (symbolText (now (f .entry)) h j) ⌝ }
 {
     let name = names::symbol_span(f, h, j);
+    let key = order::key(f, name);
     let mut lo: usize = 0;
     let mut n = slots.len();
     while 0 < n {
         let half = n / 2;
         let middle = lo + half;
-        match name_order(f, h, name, slots[middle]) {
+        match entry_order(f, h, name, key, slots[middle], keys[middle]) {
             Order::Less => {
                 n = half;
             }
@@ -332,35 +352,35 @@ fn found_code(found: Found) -> u16
 }
 
 // Symbol j's code, once the names are known.
-fn slotted_code(f: &[u8], h: Header, slots: &[u32], j: u32, c: u16) -> u16
-    requires { ⌜ Rising (now f) h (now slots) ⌝ }
+fn slotted_code(f: &[u8], h: Header, slots: &[u32], keys: &[u64], j: u32, c: u16) -> u16
+    requires { ⌜ Keyed (now f) h (now slots) (now keys) ⌝ }
     ensures { λ r. ⌜ r ≡ slottedCode c (slotOf (now (f .entry)) h (now (slots .entry)) (symbolText (now (f .entry)) h j)) ⌝ }
 {
     if util::either(c == codes::SLOT, c == codes::EXTERN) {
-        found_code(slot_of(f, h, slots, j))
+        found_code(slot_of(f, h, slots, keys, j))
     } else {
         c
     }
 }
 
 // The slot of symbol j, into its code.
-fn put_slot(f: &[u8], h: Header, slots: &[u32], codes: &mut [u16], j: u32)
-    requires { ⌜ Rising (now f) h (now slots) ⌝ }
+fn put_slot(f: &[u8], h: Header, slots: &[u32], keys: &[u64], codes: &mut [u16], j: u32)
+    requires { ⌜ Keyed (now f) h (now slots) (now keys) ⌝ }
     ensures { λ _. ⌜ now (codes .exit) ≡ splice (now (codes .entry)) j (slottedAt (now (f .entry)) h (now (slots .entry)) (now (codes .entry)) j ∷ []) ⌝ }
 {
-    let c = slotted_code(f, h, slots, j, codes::code_at(codes, j));
+    let c = slotted_code(f, h, slots, keys, j, codes::code_at(codes, j));
     codes::put_code(codes, j, c);
 }
 
 // The slots of all symbols, into their codes.
-fn put_slots(f: &[u8], h: Header, slots: &[u32], codes: &mut [u16])
-    requires { ⌜ Rising (now f) h (now slots) ⌝ }
+fn put_slots(f: &[u8], h: Header, slots: &[u32], keys: &[u64], codes: &mut [u16])
+    requires { ⌜ Keyed (now f) h (now slots) (now keys) ⌝ }
     ensures { λ _. ⌜ now (codes .exit) ≡ slotted (now (f .entry)) h (now (slots .entry)) (now (codes .entry)) ⌝ }
 {
     let m = h.symbols;
     let mut j: u32 = 0;
     while j < m {
-        put_slot(f, h, slots, codes, j);
+        put_slot(f, h, slots, keys, codes, j);
         j += 1;
     }
 }
@@ -379,7 +399,7 @@ pub fn collect(
     ensures { λ r. ⌜ now (codes .exit) ≡ codesAfter (now (f .entry)) h (now (codes .entry)) (externsBy (now (f .entry)) h (putsIn (now (codes .entry)))) ⌝ }
 {
     let mut keys = [0u64; limits::EXTERN_ROOM];
-    let mut seen = [0u16; SEEN];
+    let mut seen = [0u8; SEEN];
     let found = fill(f, h, codes, slots, &mut keys, &mut seen);
     match found {
         Names::TooMany => {
@@ -388,7 +408,7 @@ pub fn collect(
         }
         Names::Count(n) => {
             clear(slots, n);
-            put_slots(f, h, le::words(slots, n), codes);
+            put_slots(f, h, le::words(slots, n), &keys, codes);
             Names::Count(n)
         }
     }

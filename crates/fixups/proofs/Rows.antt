@@ -1,9 +1,10 @@
 -- The pass over all relocations: its loops, and that it counts what `tallyOf` counts. Assumes nothing.
-use mathlib.Core.Path.{_≡_, refl, ap, _∙_}
+use mathlib.Core.Path.{_≡_, refl, sym, ap, _∙_}
 use mathlib.Core.Bool.{Bool, true, false}
 use mathlib.Core.List.{List}
-use Prim.Native.Nat.{ℕ, _+_, _*_, _≤_, _<_, _^_}
+use Prim.Native.Nat.{ℕ, zero, suc, _+_, _*_, _≤_, _<_, _^_}
 use native.Mathlib.Omega.{arith}
+use native.Mathlib.Nat.{add-zero}
 use native.Mathlib.Numerals.{add-one}
 use Rattle.util.specs.Pick.{pick}
 use lib.ListN.{getD}
@@ -16,14 +17,14 @@ use Rattle.object.specs.Relocation.{relocationIn, recordsOf, recordAt, count-re
 use Rattle.object.specs.Section.{relocationCount}
 use Rattle.homes.specs.Home.{wordHome, homeIn}
 use Rattle.targets.specs.declared.Target.{Target}
-use Rattle.fixups.specs.Outcome.{byHome, outcome, readOutcome, read-outcome}
+use Rattle.fixups.specs.Outcome.{byHome, outcome, no-home, readOutcome, read-outcome}
 use Rattle.targets.specs.declared.Skip.{Skip}
 use Rattle.fixups.specs.declared.Fix.{Fix}
 use Rattle.fixups.specs.declared.Outcome.{Outcome}
 use Rattle.fixups.specs.declared.Outcome.the-variants.{Passed, Skipped, Refused, Fixup}
 use Rattle.fixups.specs.declared.Tally.{Tally}
 use Rattle.fixups.specs.Tally.{isPassed, isSkipped, isRefused, isFixup, isMapped, isOutside, countStep, howMany, tallyOf}
-use Rattle.fixups.specs.Tallying.{nothing, tallied, tallyStep, rowTo, rowsTo, AtMost, Counted}
+use Rattle.fixups.specs.Tallying.{nothing, tallied, passedBy, tallyStep, rowTo, rowsTo, AtMost, Counted}
 
 -- ---- one outcome more
 module _ (pages : ℕ) (t : Tally) where
@@ -186,3 +187,41 @@ section-end a f h homes target pages i rs w t s k e q z m b c d =
     (count-read f h i rs q) d
 
 pub ruleset section-loop = (row-none, row-again, read-is, section-end, within-again, within-room)
+
+-- ---- a section without a home
+row-passed : (pages : ℕ) (o : ℕ → ℕ → Outcome) (i : ℕ) (t : Tally) → ((k : ℕ) → o i k ≡ Passed) → (n : ℕ) → rowTo pages o i t n ≡ passedBy t n
+unfolding foldRecords tallyStep tallied pick
+row-passed pages o i t e zero = rw add-zero
+row-passed pages o i t e (suc n) =
+    let z : t .passed + n + 1 ≡ t .passed + suc n = omega arith in
+    rw (row-passed pages o i t e n, e n, z)
+
+pub passed-near : (i n : ℕ) (t r : Tally) → n < 2 ^ 32 → r ≡ passedBy t n → AtMost t (2 ^ 32 * i) → AtMost r (2 ^ 32 * (i + 1))
+passed-near i n t r l d m =
+    rw d
+    (record {
+      passed = omega (arith, m .passed);
+      skips = omega (arith, m .skips);
+      refused = omega (arith, m .refused);
+      fixups = omega (arith, m .fixups);
+      outside = omega (arith, m .outside);
+    })
+
+pub passed-section : (a : Arch) (f : List ℕ) (h : Header) (homes : List ℕ) (target : ℕ → Target) (pages i w n : ℕ) (t r : Tally) → w ≡ getD homes i 0 → w ≡ 0 → n ≡ relocationCount f h i → n < 2 ^ 32
+    → r ≡ passedBy t n → AtMost t (2 ^ 32 * i) → Counted (rowTo pages (outcome a f h (homeIn homes) target) i t (relocationCount f h i)) i r
+passed-section a f h homes target pages i w n t r e z q l d m =
+    rw (d, q)
+    (record {
+      same = sym (row-passed pages (outcome a f h (homeIn homes) target) i t (no-home a f h homes target i w e z) (relocationCount f h i));
+      near = passed-near i (relocationCount f h i) t (passedBy t (relocationCount f h i)) (rw q at l) refl m;
+    })
+
+pub passed-within : (t : Tally) (i : ℕ) → AtMost t (2 ^ 32 * i) → i < 2 ^ 16 → AtMost t (2 ^ 60)
+passed-within t i w l = within-more t (2 ^ 32 * i) (2 ^ 60) w (omega arith)
+
+pub passed-again : (a : Arch) (f : List ℕ) (h : Header) (homes : List ℕ) (target : ℕ → Target) (pages i w n : ℕ) (s r : Tally) → s ≡ rowsTo pages (outcome a f h (homeIn homes) target) (relocationCount f h) i
+    → w ≡ getD homes i 0 → w ≡ 0 → n ≡ relocationCount f h i → n < 2 ^ 32 → r ≡ passedBy s n → AtMost s (2 ^ 32 * i) → r ≡ rowsTo pages (outcome a f h (homeIn homes) target) (relocationCount f h) (i + 1)
+passed-again a f h homes target pages i w n s r e k z q l d m =
+    rows-again pages (outcome a f h (homeIn homes) target) (relocationCount f h) i s r e (passed-section a f h homes target pages i w n s r k z q l d m)
+
+pub ruleset homeless = (passed-within, passed-again, passed-near)

@@ -78,6 +78,11 @@ by-record arch target home r s t g x e q p z = rw (← e, ← q, ← p) z
 unfoldable pub outcome : Arch → List ℕ → Header → (ℕ → Offset) → (ℕ → Target) → ℕ → ℕ → Outcome
 outcome arch f h home target i k = byHome arch target (home i) (relocation f h i k)
 
+-- by the words that are kept of the homes: in a section without one every relocation is passed
+pub no-home : (a : Arch) (f : List ℕ) (h : Header) (homes : List ℕ) (target : ℕ → Target) (i w : ℕ) → w ≡ getD homes i 0 → w ≡ 0 → (k : ℕ) → outcome a f h (homeIn homes) target i k ≡ Passed
+unfolding outcome outcomeAt wordHome
+no-home a f h homes target i w e z k = rw (← e, z)
+
 -- the same by what is found once for a section: where its records are, and its home (`read-outcome`)
 unfoldable pub readOutcome : Arch → List ℕ → (ℕ → Target) → Records → Offset → ℕ → ℕ → Outcome
 readOutcome arch f target records home i k = byHome arch target home (relocationIn f (recordAt records k))

@@ -22,6 +22,10 @@ tallied pages t o =
       outside = pick (isOutside pages o) (t .outside + 1) (t .outside);
     }
 
+-- after n that are passed
+abbrev pub passedBy : Tally → ℕ → Tally
+passedBy t n = record { passed = t .passed + n; skips = t .skips; refused = t .refused; fixups = t .fixups; outside = t .outside }
+
 -- with what record k of section i comes to
 unfoldable pub tallyStep : ℕ → (ℕ → ℕ → Outcome) → Tally → ℕ → ℕ → Tally
 tallyStep pages o t i k = tallied pages t (o i k)

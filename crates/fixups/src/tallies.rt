@@ -16,7 +16,7 @@ ghost use Rattle.targets.specs.Table.{targetIn};
 ghost use Rattle.fixups.specs.declared.Outcome.the-variants.{Fixup};
 ghost use Rattle.fixups.specs.Outcome.{byHome, outcome};
 ghost use Rattle.fixups.specs.Tally.{isMapped, tallyOf};
-ghost use Rattle.fixups.specs.Tallying.{tallied, rowTo, AtMost, Counted};
+ghost use Rattle.fixups.specs.Tallying.{tallied, passedBy, rowTo, AtMost, Counted};
 
 // A fixup's bytes lie in the first `pages` pages.
 fn is_mapped(pages: u32, x: Fix) -> bool
@@ -105,7 +105,7 @@ fn outcome_of(
     outcomes::outcome_at(word, r.address, kinds::type_of(arch, r.typ), target)
 }
 
-// The records of section i.
+// The records of section i, one by one.
 fn with_section(
     arch: Arch,
     f: &[u8],
@@ -134,7 +134,21 @@ fn with_section(
     sum
 }
 
-// How many relocations of the file come to each outcome; `pages` are mapped.
+// With n that are passed.
+fn with_passed(t: Tally, n: u32) -> Tally
+    requires { ⌜ AtMost t (2 ^ 60) ⌝ }
+    ensures { λ r. ⌜ r ≡ passedBy t n ⌝ }
+{
+    Tally {
+        passed: t.passed + n as u64,
+        skips: t.skips,
+        refused: t.refused,
+        fixups: t.fixups,
+        outside: t.outside,
+    }
+}
+
+// How many relocations of the file come to each outcome; `pages` are mapped. In a section without a home all are passed, and none is read.
 pub fn tally_of(
     arch: Arch,
     f: &[u8],
@@ -157,8 +171,13 @@ pub fn tally_of(
     };
     let mut i: u32 = 0;
     while i < n {
-        sum = with_section(arch, f, h, homes, starts, undef, codes, pages, sum, i);
-        i += 1;
+        if le::word_at(homes, i as usize) == 0 {
+            sum = with_passed(sum, object::relocation_count(f, h, i));
+            i += 1;
+        } else {
+            sum = with_section(arch, f, h, homes, starts, undef, codes, pages, sum, i);
+            i += 1;
+        }
     }
     sum
 }

@@ -16,8 +16,6 @@ use Rattle.arch.specs.declared.Offset.the-variants.{At, None}
 use Rattle.arch.specs.Address.{rva}
 use Rattle.object.specs.declared.Header.{Header}
 use Rattle.object.specs.Section.{loaded, fileStart}
-use Rattle.object.specs.declared.Symbol.{Symbol}
-use Rattle.object.specs.Symbol.{placeOf, listedOf}
 use Rattle.object.specs.SymbolLaws.{left-none, left-past}
 use Rattle.kinds.specs.declared.Place.{Place}
 use Rattle.kinds.specs.declared.Place.the-variants.{In, Undefined, Common, Absolute, Nowhere, Other}
@@ -202,12 +200,12 @@ some-at x o e = rw e
 pub some-none : (x : Offset) → x ≡ None → false ≡ isSome x
 some-none x e = rw e
 
-module _ (home : ℕ → Offset) (s : Symbol) (x : Offset) (p : Place) (at-home : x ≡ placeHome home p) (at-place : p ≡ placeOf s) where
-  pub both-is : (a : Bool) {r b : Bool} → r ≡ (a && b) → b ≡ isSome x → r ≡ (a && isSome (placeHome home (placeOf s)))
-  both-is a e q = rw (← at-place, ← at-home, ← q) e
+module _ (home : ℕ → Offset) (x : Offset) (p : Place) (at-home : x ≡ placeHome home p) where
+  pub both-is : (a : Bool) {r b : Bool} → r ≡ (a && b) → b ≡ isSome x → r ≡ (a && isSome (placeHome home p))
+  both-is a e q = rw (← at-home, ← q) e
 
-  pub offset-is : {r : RVA} (v : ℕ) → r ≡ rva (offsetFrom x v) → v ≡ listedOf s → r ≡ rva (offsetFrom (placeHome home (placeOf s)) (listedOf s))
-  offset-is v e c = rw (← at-place, ← at-home, ← c) e
+  pub offset-is : {r : RVA} (v : ℕ) → r ≡ rva (offsetFrom x v) → r ≡ rva (offsetFrom (placeHome home p) v)
+  offset-is v e = rw (← at-home) e
 
 module _ (x : Offset) (v : ℕ) where
   pub from-at : (o : RVA) → x ≡ At o → rva (o .0 + v) ≡ rva (offsetFrom x v)

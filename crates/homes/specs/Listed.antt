@@ -51,7 +51,7 @@ abbrev pub listedTotal : List ℕ → Header → (ℕ → Offset) → ℕ
 listedTotal f h home = countTo (listed f h home) (h .symbols)
 
 -- ---- as a loop tells it that counts how many auxiliary records are left
-pub listed-is : (f : List ℕ) (h : Header) (home : ℕ → Offset) (j left : ℕ) (s : Symbol) {r : Bool} → r ≡ (eqb left 0 && isSome (placeHome home (placeOf s))) → left ≡ auxiliariesLeft f h j → s ≡ symbolOf f h j
+pub listed-is : (f : List ℕ) (h : Header) (home : ℕ → Offset) (j left : ℕ) (s : Symbol) (p : Place) {r : Bool} → r ≡ (eqb left 0 && isSome (placeHome home p)) → left ≡ auxiliariesLeft f h j → p ≡ placeOf s → s ≡ symbolOf f h j
     → r ≡ listed f h home j
 unfolding listed primary
-listed-is f h home j left s e a b = rw (b, a) at e
+listed-is f h home j left s p e a b c = rw (b, c, a) at e

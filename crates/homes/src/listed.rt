@@ -4,14 +4,12 @@ use arch::Offset;
 use arch::RVA;
 use kinds::Place;
 use object::Header;
-use object::Symbol;
 ghost use mathlib.Core.Path.{_≡_};
 ghost use mathlib.Core.Bool.{_&&_};
 ghost use Prim.Native.Nat.{_<_, _^_};
 ghost use lib.Dec.{eqb};
 ghost use lib.ListN.{getD};
 ghost use Rattle.arch.specs.Address.{rva};
-ghost use Rattle.object.specs.Symbol.{placeOf, listedOf};
 ghost use Rattle.homes.specs.Home.{byNumber, homeIn, Low};
 ghost use Rattle.homes.specs.Listed.{ofPlace, placeHome, isSome, offsetFrom, listedTotal};
 
@@ -63,11 +61,11 @@ fn is_some(o: Offset) -> bool
     }
 }
 
-// The record s is a listed symbol's, if `left` auxiliary records stand from it on.
-pub fn is_listed(homes: &[u32], left: u8, s: Symbol) -> bool
-    ensures { λ r. ⌜ r ≡ (eqb left 0 && isSome (placeHome (homeIn (now (homes .entry))) (placeOf s))) ⌝ }
+// A record with the place p is a listed symbol's, if `left` auxiliary records stand from it on.
+pub fn is_listed(homes: &[u32], left: u8, p: Place) -> bool
+    ensures { λ r. ⌜ r ≡ (eqb left 0 && isSome (placeHome (homeIn (now (homes .entry))) p)) ⌝ }
 {
-    util::both(left == 0, is_some(place_home(homes, object::place_of(s))))
+    util::both(left == 0, is_some(place_home(homes, p)))
 }
 
 fn offset_from(home: Offset, value: u32) -> RVA
@@ -81,13 +79,12 @@ fn offset_from(home: Offset, value: u32) -> RVA
     }
 }
 
-// Where the symbol of record s is listed.
-pub fn listed_offset(homes: &[u32], s: Symbol) -> RVA
-    ensures { λ r. ⌜ r ≡ rva (offsetFrom (placeHome (homeIn (now (homes .entry))) (placeOf s)) (listedOf s)) ⌝ }
+// Where a symbol with that place and listed value is listed.
+pub fn listed_offset(homes: &[u32], p: Place, value: u32) -> RVA
+    ensures { λ r. ⌜ r ≡ rva (offsetFrom (placeHome (homeIn (now (homes .entry))) p) value) ⌝ }
     ensures { λ r. ⌜ r .0 < 2 ^ 33 ⌝ }
 {
-    let home = place_home(homes, object::place_of(s));
-    offset_from(home, object::listed_of(s))
+    offset_from(place_home(homes, p), value)
 }
 
 // How many symbols are listed.
@@ -100,7 +97,7 @@ pub fn listed_total(f: &[u8], h: Header, homes: &[u32]) -> u32
     let mut j: u32 = 0;
     while j < n {
         let s = object::read_symbol(f, h, j);
-        let found = is_listed(homes, left, s);
+        let found = is_listed(homes, left, object::place_of(s));
         left = object::left_by(left, s.auxiliaries);
         if found {
             count += 1;

@@ -1,5 +1,5 @@
--- The limits, and the sizes of the records that are lent out, each named once (01, "The operations and what they turn down"; docs/HOST.md).
-use Prim.Native.Nat.{ℕ}
+-- The limits, each named once (01, "The operations and what they turn down").
+use Prim.Native.Nat.{ℕ, _+_}
 
 -- refusal 1: the bytes of a file
 abbrev pub MAX-FILE : ℕ
@@ -12,6 +12,10 @@ MAX-SECTIONS = 256
 -- refusal 4: symbol records, auxiliary ones too
 abbrev pub MAX-SYMBOLS : ℕ
 MAX-SYMBOLS = 16384
+
+-- up to so many a small array keeps what they come to
+abbrev pub FEW-SYMBOLS : ℕ
+FEW-SYMBOLS = 512
 
 -- refusal 5: relocations of all sections together, passed ones too
 abbrev pub MAX-RELOCATIONS : ℕ
@@ -27,7 +31,7 @@ MAX-EXTERNS = 1024
 
 -- room for one name more than there may be
 abbrev pub EXTERN-ROOM : ℕ
-EXTERN-ROOM = 1025
+EXTERN-ROOM = MAX-EXTERNS + 1
 
 -- refusal 12: the highest base; an image of the most pages then ends by 0x80000000, and the 4 signed bytes of a slot hold its address
 abbrev pub MAX-BASE : ℕ
@@ -36,24 +40,3 @@ MAX-BASE = 0x7F000000
 -- the bytes of an extern slot
 abbrev pub SLOT-SIZE : ℕ
 SLOT-SIZE = 4
-
--- ---- the bytes of a record, in each table that load writes (docs/HOST.md)
--- eight words: range, file range, permissions, name, number in the file
-abbrev pub SECTION-BYTES : ℕ
-SECTION-BYTES = 64
-
--- six: address, kind, name, number of its record, number of its home's record
-abbrev pub SYMBOL-BYTES : ℕ
-SYMBOL-BYTES = 48
-
--- four: the slot's address, the symbol's number, name
-abbrev pub EXTERN-BYTES : ℕ
-EXTERN-BYTES = 32
-
--- three: place, bits, value
-abbrev pub FIXUP-BYTES : ℕ
-FIXUP-BYTES = 24
-
--- three: section from 1, record from 0, reason 1 to 4
-abbrev pub SKIP-BYTES : ℕ
-SKIP-BYTES = 24

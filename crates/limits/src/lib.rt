@@ -1,4 +1,4 @@
-// Every limit of the loader and the sizes of the records that it lends out, each named once.
+// Every limit of the loader, and the records of the tables that load writes, word by word; each number named once.
 
 // Bytes of a file (refusal 1).
 pub const MAX_FILE: usize = 4194304;
@@ -8,6 +8,9 @@ pub const MAX_SECTIONS: usize = 256;
 
 // Symbol records, auxiliary ones too (refusal 4).
 pub const MAX_SYMBOLS: usize = 16384;
+
+// Up to so many a small array keeps what they come to: to clear the large one would be most of the work on a small file.
+pub const FEW_SYMBOLS: usize = 512;
 
 // Relocations of all sections together, passed ones too (refusal 5).
 pub const MAX_RELOCATIONS: u64 = 32768;
@@ -19,7 +22,7 @@ pub const MAX_PAGES: u64 = 4096;
 pub const MAX_EXTERNS: usize = 1024;
 
 // Room for one name more than there may be.
-pub const EXTERN_ROOM: usize = 1025;
+pub const EXTERN_ROOM: usize = MAX_EXTERNS + 1;
 
 // The highest base.
 pub const MAX_BASE: u64 = 0x7F000000;
@@ -27,17 +30,98 @@ pub const MAX_BASE: u64 = 0x7F000000;
 // The bytes of an extern slot.
 pub const SLOT_SIZE: u64 = 4;
 
-// The bytes of a record in each table that load writes. A section's: range, file range, permissions, name, number in the file.
-pub const SECTION_BYTES: usize = 64;
+// The bytes of a word of a table.
+pub const WORD: usize = 8;
 
-// Address, kind, name, number of its record, number of its home's record.
-pub const SYMBOL_BYTES: usize = 48;
+// The words of a record of the section table.
+pub const SECTION_WORDS: u8 = 8;
 
-// The slot's address, the symbol's number, name.
-pub const EXTERN_BYTES: usize = 32;
+// Those words in bytes.
+pub const SECTION_BYTES: usize = WORD * SECTION_WORDS as usize;
 
-// Place, bits, value.
-pub const FIXUP_BYTES: usize = 24;
+// Where each stands, from 0: the first address of its range in the image,
+pub const SECTION_START: u8 = 0;
 
-// Section from 1, record from 0, reason 1 to 4.
-pub const SKIP_BYTES: usize = 24;
+// the address behind it,
+pub const SECTION_END: u8 = 1;
+
+// the first offset of its range in the file,
+pub const SECTION_FILE_START: u8 = 2;
+
+// the offset behind it,
+pub const SECTION_FILE_END: u8 = 3;
+
+// the permissions,
+pub const SECTION_PERMISSIONS: u8 = 4;
+
+// where the name starts in the file,
+pub const SECTION_NAME_START: u8 = 5;
+
+// how many bytes that has,
+pub const SECTION_NAME_LENGTH: u8 = 6;
+
+// and the section's number in the file, from 1; UNDEF's is 0.
+pub const SECTION_FILE_NUMBER: u8 = 7;
+
+// The words of a record of the symbol table.
+pub const SYMBOL_WORDS: u8 = 6;
+
+// Those words in bytes.
+pub const SYMBOL_BYTES: usize = WORD * SYMBOL_WORDS as usize;
+
+// The words of a record of the table of extern names.
+pub const EXTERN_WORDS: u8 = 4;
+
+// Those words in bytes.
+pub const EXTERN_BYTES: usize = WORD * EXTERN_WORDS as usize;
+
+// Address and name stand alike in both: the symbol's address, or the slot's,
+pub const ADDRESS: u8 = 0;
+
+// where the name starts in the file,
+pub const NAME_START: u8 = 2;
+
+// and how many bytes that has.
+pub const NAME_LENGTH: u8 = 3;
+
+// Of a symbol also its kind,
+pub const SYMBOL_KIND: u8 = 1;
+
+// its record's number in the file,
+pub const SYMBOL_NUMBER: u8 = 4;
+
+// and its home's record in the section table.
+pub const SYMBOL_HOME: u8 = 5;
+
+// Of an extern name the lowest number of a symbol that put it there.
+pub const EXTERN_NUMBER: u8 = 1;
+
+// The words of a record of the fix list.
+pub const FIXUP_WORDS: u8 = 3;
+
+// Those words in bytes.
+pub const FIXUP_BYTES: usize = WORD * FIXUP_WORDS as usize;
+
+// The address to be written at,
+pub const FIXUP_PLACE: u8 = 0;
+
+// how many bits are written,
+pub const FIXUP_BITS: u8 = 1;
+
+// and the value.
+pub const FIXUP_VALUE: u8 = 2;
+
+// The words of a record of the skips.
+pub const SKIP_WORDS: u8 = 3;
+
+// Those words in bytes.
+pub const SKIP_BYTES: usize = WORD * SKIP_WORDS as usize;
+
+// The section from 1,
+pub const SKIP_SECTION: u8 = 0;
+
+// the relocation record from 0,
+pub const SKIP_RECORD: u8 = 1;
+
+// and the reason, 1 to 4.
+pub const SKIP_REASON: u8 = 2;

@@ -5,6 +5,7 @@ use Prim.Native.Nat.{ℕ, suc, _+_, _-_, _*_, _%_, _^_, _≤_, _<_}
 use native.Mathlib.Omega.{arith}
 use borrow.Author.Tests.{ne-eqb}
 use lib.ListN.{getD, List·getD-eq-default}
+use Rattle.limits.specs.Records.{WORD, SECTION-WORDS, SECTION-START, SECTION-END, SECTION-FILE-START, SECTION-FILE-END, SECTION-PERMISSIONS, SECTION-NAME-START, SECTION-NAME-LENGTH, SECTION-FILE-NUMBER, SYMBOL-WORDS, EXTERN-WORDS, ADDRESS, NAME-START, NAME-LENGTH, SYMBOL-KIND, FIXUP-WORDS, FIXUP-PLACE, FIXUP-BITS, FIXUP-VALUE, SKIP-WORDS, SKIP-SECTION, SKIP-RECORD, SKIP-REASON}
 use Rattle.util.specs.Pick.{pick}
 use Rattle.util.specs.Prefix.{listTo}
 use Rattle.le.specs.Le.{get, part, splice}
@@ -18,7 +19,7 @@ use Rattle.lines.specs.Lines.{sectionLine, symbolLine, externLine, fixLine, ski
 use Rattle.listing.specs.Listing.{sectionTitle, sectionLineAt, symbolLineAt, externLineAt, fixLineAt, skipLineAt, lineCount}
 use Rattle.listing.specs.ListingLaws.{at-row, behind-rows}
 
-pub word-is : (t : List ℕ) (width i w r : ℕ) → r ≡ get 8 t (8 * (width * i + w)) → r ≡ wordOf width t i w
+pub word-is : (t : List ℕ) (width i w r : ℕ) → r ≡ get WORD t (WORD * (width * i + w)) → r ≡ wordOf width t i w
 unfolding wordOf
 word-is t width i w r e = e
 
@@ -61,37 +62,37 @@ pub ruleset first-ways = (first-put, behind-put)
 
 -- ---- the line of a record
 module _ (f t : List ℕ) (i : ℕ) (l e : List ℕ) (q : ℕ) where
-  pub undef-put : (x : ℕ) → x ≡ wordOf 8 t i 7 → x ≡ 0
-      → Puts l 0 (sectionLine (wordOf 8 t i 0) (wordOf 8 t i 1) (wordOf 8 t i 2) (wordOf 8 t i 3) (wordOf 8 t i 4) UNDEF) e q → Puts l 0 (sectionLineAt f t i) e q
+  pub undef-put : (x : ℕ) → x ≡ wordOf SECTION-WORDS t i SECTION-FILE-NUMBER → x ≡ 0
+      → Puts l 0 (sectionLine (wordOf SECTION-WORDS t i SECTION-START) (wordOf SECTION-WORDS t i SECTION-END) (wordOf SECTION-WORDS t i SECTION-FILE-START) (wordOf SECTION-WORDS t i SECTION-FILE-END) (wordOf SECTION-WORDS t i SECTION-PERMISSIONS) UNDEF) e q → Puts l 0 (sectionLineAt f t i) e q
   unfolding sectionLineAt sectionTitle pick
   undef-put x d z p = rw (← d, z) p
 
-  pub section-put : (x a n : ℕ) (name : List ℕ) → x ≡ wordOf 8 t i 7 → (x ≡ 0 → ⊥) → a ≡ wordOf 8 t i 5 → n ≡ wordOf 8 t i 6 → name ≡ part f a n
-      → Puts l 0 (sectionLine (wordOf 8 t i 0) (wordOf 8 t i 1) (wordOf 8 t i 2) (wordOf 8 t i 3) (wordOf 8 t i 4) name) e q → Puts l 0 (sectionLineAt f t i) e q
+  pub section-put : (x a n : ℕ) (name : List ℕ) → x ≡ wordOf SECTION-WORDS t i SECTION-FILE-NUMBER → (x ≡ 0 → ⊥) → a ≡ wordOf SECTION-WORDS t i SECTION-NAME-START → n ≡ wordOf SECTION-WORDS t i SECTION-NAME-LENGTH → name ≡ part f a n
+      → Puts l 0 (sectionLine (wordOf SECTION-WORDS t i SECTION-START) (wordOf SECTION-WORDS t i SECTION-END) (wordOf SECTION-WORDS t i SECTION-FILE-START) (wordOf SECTION-WORDS t i SECTION-FILE-END) (wordOf SECTION-WORDS t i SECTION-PERMISSIONS) name) e q → Puts l 0 (sectionLineAt f t i) e q
   unfolding sectionLineAt sectionTitle pick
   section-put x a n name d z y w s p = rw (← d, ne-eqb x 0 z, ← y, ← w, ← s) p
 
-  pub symbol-put : (x y a n : ℕ) (kind : SymbolKind) (name : List ℕ) → a ≡ wordOf 6 t i 2 → n ≡ wordOf 6 t i 3 → name ≡ part f a n → x ≡ wordOf 6 t i 0 → y ≡ wordOf 6 t i 1
+  pub symbol-put : (x y a n : ℕ) (kind : SymbolKind) (name : List ℕ) → a ≡ wordOf SYMBOL-WORDS t i NAME-START → n ≡ wordOf SYMBOL-WORDS t i NAME-LENGTH → name ≡ part f a n → x ≡ wordOf SYMBOL-WORDS t i ADDRESS → y ≡ wordOf SYMBOL-WORDS t i SYMBOL-KIND
       → kind ≡ kindNumbered y → Puts l 0 (symbolLine x kind name) e q → Puts l 0 (symbolLineAt f t i) e q
   unfolding symbolLineAt
   symbol-put x y a n kind name d w s u v z p = rw (← d, ← w, ← s, ← u, ← v, ← z) p
 
-  pub extern-put : (x a n : ℕ) (name : List ℕ) → a ≡ wordOf 4 t i 2 → n ≡ wordOf 4 t i 3 → name ≡ part f a n → x ≡ wordOf 4 t i 0
+  pub extern-put : (x a n : ℕ) (name : List ℕ) → a ≡ wordOf EXTERN-WORDS t i NAME-START → n ≡ wordOf EXTERN-WORDS t i NAME-LENGTH → name ≡ part f a n → x ≡ wordOf EXTERN-WORDS t i ADDRESS
       → Puts l 0 (externLine x name) e q → Puts l 0 (externLineAt f t i) e q
   unfolding externLineAt
   extern-put x a n name d w s u p = rw (← d, ← w, ← s, ← u) p
 
 module _ (t : List ℕ) (i : ℕ) (l e : List ℕ) (q : ℕ) where
-  pub named-put : (a b c d p : ℕ) (name : List ℕ) → a ≡ wordOf 8 t i 0 → b ≡ wordOf 8 t i 1 → c ≡ wordOf 8 t i 2 → d ≡ wordOf 8 t i 3 → p ≡ wordOf 8 t i 4
+  pub named-put : (a b c d p : ℕ) (name : List ℕ) → a ≡ wordOf SECTION-WORDS t i SECTION-START → b ≡ wordOf SECTION-WORDS t i SECTION-END → c ≡ wordOf SECTION-WORDS t i SECTION-FILE-START → d ≡ wordOf SECTION-WORDS t i SECTION-FILE-END → p ≡ wordOf SECTION-WORDS t i SECTION-PERMISSIONS
       → Puts l 0 (sectionLine a b c d p name) e q
-      → Puts l 0 (sectionLine (wordOf 8 t i 0) (wordOf 8 t i 1) (wordOf 8 t i 2) (wordOf 8 t i 3) (wordOf 8 t i 4) name) e q
+      → Puts l 0 (sectionLine (wordOf SECTION-WORDS t i SECTION-START) (wordOf SECTION-WORDS t i SECTION-END) (wordOf SECTION-WORDS t i SECTION-FILE-START) (wordOf SECTION-WORDS t i SECTION-FILE-END) (wordOf SECTION-WORDS t i SECTION-PERMISSIONS) name) e q
   named-put a b c d p name u v w x y z = rw (← u, ← v, ← w, ← x, ← y) z
 
-  pub fix-put : (a b c : ℕ) → a ≡ wordOf 3 t i 0 → b ≡ wordOf 3 t i 1 → c ≡ wordOf 3 t i 2 → Puts l 0 (fixLine a b c) e q → Puts l 0 (fixLineAt t i) e q
+  pub fix-put : (a b c : ℕ) → a ≡ wordOf FIXUP-WORDS t i FIXUP-PLACE → b ≡ wordOf FIXUP-WORDS t i FIXUP-BITS → c ≡ wordOf FIXUP-WORDS t i FIXUP-VALUE → Puts l 0 (fixLine a b c) e q → Puts l 0 (fixLineAt t i) e q
   unfolding fixLineAt
   fix-put a b c u v w z = rw (← u, ← v, ← w) z
 
-  pub skip-put : (a b c : ℕ) → a ≡ wordOf 3 t i 0 → b ≡ wordOf 3 t i 1 → c ≡ wordOf 3 t i 2 → Puts l 0 (skipLine a b c) e q → Puts l 0 (skipLineAt t i) e q
+  pub skip-put : (a b c : ℕ) → a ≡ wordOf SKIP-WORDS t i SKIP-SECTION → b ≡ wordOf SKIP-WORDS t i SKIP-RECORD → c ≡ wordOf SKIP-WORDS t i SKIP-REASON → Puts l 0 (skipLine a b c) e q → Puts l 0 (skipLineAt t i) e q
   unfolding skipLineAt
   skip-put a b c u v w z = rw (← u, ← v, ← w) z
 

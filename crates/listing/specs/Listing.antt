@@ -2,6 +2,7 @@
 use mathlib.Core.List.{List, [], _∷_, _++_}
 use Prim.Native.Nat.{ℕ, _+_}
 use lib.Dec.{eqb}
+use Rattle.limits.specs.Records.{SECTION-WORDS, SECTION-START, SECTION-END, SECTION-FILE-START, SECTION-FILE-END, SECTION-PERMISSIONS, SECTION-NAME-START, SECTION-NAME-LENGTH, SECTION-FILE-NUMBER, SYMBOL-WORDS, EXTERN-WORDS, ADDRESS, NAME-START, NAME-LENGTH, SYMBOL-KIND, FIXUP-WORDS, FIXUP-PLACE, FIXUP-BITS, FIXUP-VALUE, SKIP-WORDS, SKIP-SECTION, SKIP-RECORD, SKIP-REASON}
 use Rattle.util.specs.Pick.{pick}
 use Rattle.util.specs.Prefix.{listTo}
 use Rattle.le.specs.Le.{part}
@@ -14,27 +15,27 @@ use Rattle.lines.specs.Lines.{imageLine, sectionLine, symbolLine, externLine, f
 -- ---- the line of record i of a table; a name is that part of the file
 -- the record with no section's number is UNDEF's, which has no name in the file
 unfoldable pub sectionTitle : List ℕ → List ℕ → ℕ → List ℕ
-sectionTitle f t i = pick (eqb (wordOf 8 t i 7) 0) UNDEF (part f (wordOf 8 t i 5) (wordOf 8 t i 6))
+sectionTitle f t i = pick (eqb (wordOf SECTION-WORDS t i SECTION-FILE-NUMBER) 0) UNDEF (part f (wordOf SECTION-WORDS t i SECTION-NAME-START) (wordOf SECTION-WORDS t i SECTION-NAME-LENGTH))
 
 -- of the section table: range, file range, permissions, name
 unfoldable pub sectionLineAt : List ℕ → List ℕ → ℕ → List ℕ
-sectionLineAt f t i = sectionLine (wordOf 8 t i 0) (wordOf 8 t i 1) (wordOf 8 t i 2) (wordOf 8 t i 3) (wordOf 8 t i 4) (sectionTitle f t i)
+sectionLineAt f t i = sectionLine (wordOf SECTION-WORDS t i SECTION-START) (wordOf SECTION-WORDS t i SECTION-END) (wordOf SECTION-WORDS t i SECTION-FILE-START) (wordOf SECTION-WORDS t i SECTION-FILE-END) (wordOf SECTION-WORDS t i SECTION-PERMISSIONS) (sectionTitle f t i)
 
 -- of the symbols: address, kind, name
 unfoldable pub symbolLineAt : List ℕ → List ℕ → ℕ → List ℕ
-symbolLineAt f t i = symbolLine (wordOf 6 t i 0) (kindNumbered (wordOf 6 t i 1)) (part f (wordOf 6 t i 2) (wordOf 6 t i 3))
+symbolLineAt f t i = symbolLine (wordOf SYMBOL-WORDS t i ADDRESS) (kindNumbered (wordOf SYMBOL-WORDS t i SYMBOL-KIND)) (part f (wordOf SYMBOL-WORDS t i NAME-START) (wordOf SYMBOL-WORDS t i NAME-LENGTH))
 
 -- of the extern names: slot, name
 unfoldable pub externLineAt : List ℕ → List ℕ → ℕ → List ℕ
-externLineAt f t i = externLine (wordOf 4 t i 0) (part f (wordOf 4 t i 2) (wordOf 4 t i 3))
+externLineAt f t i = externLine (wordOf EXTERN-WORDS t i ADDRESS) (part f (wordOf EXTERN-WORDS t i NAME-START) (wordOf EXTERN-WORDS t i NAME-LENGTH))
 
 -- of the fixups: place, bits, value
 unfoldable pub fixLineAt : List ℕ → ℕ → List ℕ
-fixLineAt t i = fixLine (wordOf 3 t i 0) (wordOf 3 t i 1) (wordOf 3 t i 2)
+fixLineAt t i = fixLine (wordOf FIXUP-WORDS t i FIXUP-PLACE) (wordOf FIXUP-WORDS t i FIXUP-BITS) (wordOf FIXUP-WORDS t i FIXUP-VALUE)
 
 -- of the skips: section, record, reason
 unfoldable pub skipLineAt : List ℕ → ℕ → List ℕ
-skipLineAt t i = skipLine (wordOf 3 t i 0) (wordOf 3 t i 1) (wordOf 3 t i 2)
+skipLineAt t i = skipLine (wordOf SKIP-WORDS t i SKIP-SECTION) (wordOf SKIP-WORDS t i SKIP-RECORD) (wordOf SKIP-WORDS t i SKIP-REASON)
 
 -- ---- the lines, from the last back to the first
 -- the skips, and `skipped` behind them

@@ -8,12 +8,13 @@ use native.Mathlib.Omega.{arith}
 use lib.Dec.{eqb}
 use lib.ListN.{length, getD, length-append, length-take, length-drop, List·getD-append}
 use lib.Seq.{getD-append-add}
+use Rattle.limits.specs.Records.{WORD, SECTION-WORDS, SECTION-START, SECTION-END, SECTION-FILE-START, SECTION-FILE-END, SECTION-PERMISSIONS, SECTION-NAME-START, SECTION-NAME-LENGTH, SECTION-FILE-NUMBER, SYMBOL-WORDS, EXTERN-WORDS, ADDRESS, NAME-START, NAME-LENGTH, SYMBOL-KIND, FIXUP-WORDS, FIXUP-PLACE, FIXUP-BITS, FIXUP-VALUE, SKIP-WORDS, SKIP-SECTION, SKIP-RECORD, SKIP-REASON}
 use Rattle.util.specs.Pick.{pick, le-or-lt}
 use Rattle.util.specs.Prefix.{listTo, length-list, list-at}
 use Rattle.le.specs.Le.{part, IsBytes, get-below}
 use Rattle.kinds.specs.Symbol.{kindNumbered}
 use Rattle.names.specs.Bytes.{UNDEF}
-use Rattle.words.specs.Words.{WORD, wordOf}
+use Rattle.words.specs.Words.{wordOf}
 use Rattle.survey.specs.declared.answer.Counts.{Counts}
 use Rattle.lines.specs.Lines.{imageLine, skippedLine}
 use Rattle.lines.specs.LineLaws.{image-long, section-long, symbol-long, extern-long, fix-long, skip-long, skipped-long}
@@ -40,15 +41,15 @@ part-long f i n = rw (length-take, length-drop) (omega arith)
 
 word-below : (W : ℕ) (t : List ℕ) (i w : ℕ) → IsBytes t → wordOf W t i w < 2 ^ 64
 unfolding wordOf
-word-below W t i w b = get-below 8 t (WORD * (W * i + w)) b
+word-below W t i w b = get-below WORD t (WORD * (W * i + w)) b
 
 title-long : (f t : List ℕ) (i : ℕ) → length (sectionTitle f t i) ≤ 5 + length f
 unfolding sectionTitle pick
-title-long f t i = by-number (eqb (wordOf 8 t i 7) 0)
+title-long f t i = by-number (eqb (wordOf SECTION-WORDS t i SECTION-FILE-NUMBER) 0)
   where
-    by-number : (b : Bool) → length (pick b UNDEF (part f (wordOf 8 t i 5) (wordOf 8 t i 6))) ≤ 5 + length f
+    by-number : (b : Bool) → length (pick b UNDEF (part f (wordOf SECTION-WORDS t i SECTION-NAME-START) (wordOf SECTION-WORDS t i SECTION-NAME-LENGTH))) ≤ 5 + length f
     by-number true = omega arith
-    by-number false = let z = part-long f (wordOf 8 t i 5) (wordOf 8 t i 6) in omega arith
+    by-number false = let z = part-long f (wordOf SECTION-WORDS t i SECTION-NAME-START) (wordOf SECTION-WORDS t i SECTION-NAME-LENGTH) in omega arith
 
 abbrev Short : ℕ → List (List ℕ) → Type 0
 Short m xs = (k : ℕ) → length (getD xs k []) ≤ m
@@ -69,35 +70,35 @@ module _ (f : List ℕ) (base : ℕ) (c : Counts) (sections symbols externs fixu
   section-short : (i : ℕ) → length (sectionLineAt f sections i) ≤ 125 + length f
   unfolding sectionLineAt
   section-short i =
-      let a = section-long (wordOf 8 sections i 0) (wordOf 8 sections i 1) (wordOf 8 sections i 2) (wordOf 8 sections i 3) (wordOf 8 sections i 4) (sectionTitle f sections i)
-      (word-below 8 sections i 0 s) (word-below 8 sections i 1 s) (word-below 8 sections i 2 s) (word-below 8 sections i 3 s) in
+      let a = section-long (wordOf SECTION-WORDS sections i SECTION-START) (wordOf SECTION-WORDS sections i SECTION-END) (wordOf SECTION-WORDS sections i SECTION-FILE-START) (wordOf SECTION-WORDS sections i SECTION-FILE-END) (wordOf SECTION-WORDS sections i SECTION-PERMISSIONS) (sectionTitle f sections i)
+      (word-below SECTION-WORDS sections i SECTION-START s) (word-below SECTION-WORDS sections i SECTION-END s) (word-below SECTION-WORDS sections i SECTION-FILE-START s) (word-below SECTION-WORDS sections i SECTION-FILE-END s) in
       let b = title-long f sections i in
       omega arith
 
   symbol-short : (i : ℕ) → length (symbolLineAt f symbols i) ≤ 125 + length f
   unfolding symbolLineAt
   symbol-short i =
-      let a = symbol-long (wordOf 6 symbols i 0) (kindNumbered (wordOf 6 symbols i 1)) (part f (wordOf 6 symbols i 2) (wordOf 6 symbols i 3)) (word-below 6 symbols i 0 y) in
-      let b = part-long f (wordOf 6 symbols i 2) (wordOf 6 symbols i 3) in
+      let a = symbol-long (wordOf SYMBOL-WORDS symbols i ADDRESS) (kindNumbered (wordOf SYMBOL-WORDS symbols i SYMBOL-KIND)) (part f (wordOf SYMBOL-WORDS symbols i NAME-START) (wordOf SYMBOL-WORDS symbols i NAME-LENGTH)) (word-below SYMBOL-WORDS symbols i ADDRESS y) in
+      let b = part-long f (wordOf SYMBOL-WORDS symbols i NAME-START) (wordOf SYMBOL-WORDS symbols i NAME-LENGTH) in
       omega arith
 
   extern-short : (i : ℕ) → length (externLineAt f externs i) ≤ 125 + length f
   unfolding externLineAt
   extern-short i =
-      let a = extern-long (wordOf 4 externs i 0) (part f (wordOf 4 externs i 2) (wordOf 4 externs i 3)) (word-below 4 externs i 0 e) in
-      let b = part-long f (wordOf 4 externs i 2) (wordOf 4 externs i 3) in
+      let a = extern-long (wordOf EXTERN-WORDS externs i ADDRESS) (part f (wordOf EXTERN-WORDS externs i NAME-START) (wordOf EXTERN-WORDS externs i NAME-LENGTH)) (word-below EXTERN-WORDS externs i ADDRESS e) in
+      let b = part-long f (wordOf EXTERN-WORDS externs i NAME-START) (wordOf EXTERN-WORDS externs i NAME-LENGTH) in
       omega arith
 
   fix-short : (i : ℕ) → length (fixLineAt fixups i) ≤ 125 + length f
   unfolding fixLineAt
   fix-short i =
-      let a = fix-long (wordOf 3 fixups i 0) (wordOf 3 fixups i 1) (wordOf 3 fixups i 2) (word-below 3 fixups i 0 x) (word-below 3 fixups i 1 x) (word-below 3 fixups i 2 x) in
+      let a = fix-long (wordOf FIXUP-WORDS fixups i FIXUP-PLACE) (wordOf FIXUP-WORDS fixups i FIXUP-BITS) (wordOf FIXUP-WORDS fixups i FIXUP-VALUE) (word-below FIXUP-WORDS fixups i FIXUP-PLACE x) (word-below FIXUP-WORDS fixups i FIXUP-BITS x) (word-below FIXUP-WORDS fixups i FIXUP-VALUE x) in
       omega arith
 
   skip-short : (i : ℕ) → length (skipLineAt skips i) ≤ 125 + length f
   unfolding skipLineAt
   skip-short i =
-      let a = skip-long (wordOf 3 skips i 0) (wordOf 3 skips i 1) (wordOf 3 skips i 2) (word-below 3 skips i 0 z) (word-below 3 skips i 1 z) (word-below 3 skips i 2 z) in
+      let a = skip-long (wordOf SKIP-WORDS skips i SKIP-SECTION) (wordOf SKIP-WORDS skips i SKIP-RECORD) (wordOf SKIP-WORDS skips i SKIP-REASON) (word-below SKIP-WORDS skips i SKIP-SECTION z) (word-below SKIP-WORDS skips i SKIP-RECORD z) (word-below SKIP-WORDS skips i SKIP-REASON z) in
       omega arith
 
   pub line-long : (k : ℕ) → length (getD (listing f base c sections symbols externs fixups skips) k []) ≤ 125 + length f

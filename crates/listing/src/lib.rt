@@ -1,13 +1,38 @@
 // Line k of what document 01's program prints for a loaded object, put into a lent buffer.
 use arch::VA;
 use kinds::SymbolKind;
+use limits::ADDRESS;
+use limits::EXTERN_WORDS;
+use limits::FIXUP_BITS;
+use limits::FIXUP_PLACE;
+use limits::FIXUP_VALUE;
+use limits::FIXUP_WORDS;
+use limits::NAME_LENGTH;
+use limits::NAME_START;
+use limits::SECTION_END;
+use limits::SECTION_FILE_END;
+use limits::SECTION_FILE_NUMBER;
+use limits::SECTION_FILE_START;
+use limits::SECTION_NAME_LENGTH;
+use limits::SECTION_NAME_START;
+use limits::SECTION_PERMISSIONS;
+use limits::SECTION_START;
+use limits::SECTION_WORDS;
+use limits::SKIP_REASON;
+use limits::SKIP_RECORD;
+use limits::SKIP_SECTION;
+use limits::SKIP_WORDS;
+use limits::SYMBOL_KIND;
+use limits::SYMBOL_WORDS;
+use limits::WORD;
 use survey::Counts;
 ghost use mathlib.Core.Path.{_≡_};
 ghost use mathlib.Core.List.{[]};
 ghost use Prim.Native.Nat.{_+_, _*_, _%_, _^_, _<_};
 ghost use lib.ListN.{getD};
+ghost use Rattle.limits.specs.Records.{WORD, SECTION-WORDS, SECTION-START, SECTION-END, SECTION-FILE-START, SECTION-FILE-END, SECTION-PERMISSIONS, ADDRESS};
 ghost use Rattle.kinds.specs.Symbol.{kindNumbered};
-ghost use Rattle.words.specs.Words.{WORD, wordOf};
+ghost use Rattle.words.specs.Words.{wordOf};
 ghost use Rattle.text.specs.Text.{Puts};
 ghost use Rattle.lines.specs.Lines.{sectionLine};
 ghost use Rattle.listing.specs.Listing.{
@@ -30,10 +55,7 @@ fn word(table: &[u8], width: u8, i: u32, w: u8) -> u64
     requires { ⌜ WORD * (width * i + w) < 2 ^ 64 ⌝ }
     ensures { λ r. ⌜ r ≡ wordOf width (now (table .entry)) i w ⌝ }
 {
-    le::u64_at(
-        table,
-        words::WORD * (width as usize * i as usize + w as usize),
-    )
+    le::u64_at(table, WORD * (width as usize * i as usize + w as usize))
 }
 
 // The kind that a number of the tables has.
@@ -67,16 +89,16 @@ fn kind_of(n: u64) -> SymbolKind
 fn section_named(t: &[u8], i: u32, name: &[u8], out: &mut [u8]) -> usize
     ensures { λ r.
         ⌜ Puts (now (out .entry)) 0
-        (sectionLine (wordOf 8 (now (t .entry)) i 0) (wordOf 8 (now (t .entry)) i 1) (wordOf 8 (now (t .entry)) i 2) (wordOf 8 (now (t .entry)) i 3) (wordOf 8 (now (t .entry)) i 4) (now (name .entry)))
+        (sectionLine (wordOf SECTION-WORDS (now (t .entry)) i SECTION-START) (wordOf SECTION-WORDS (now (t .entry)) i SECTION-END) (wordOf SECTION-WORDS (now (t .entry)) i SECTION-FILE-START) (wordOf SECTION-WORDS (now (t .entry)) i SECTION-FILE-END) (wordOf SECTION-WORDS (now (t .entry)) i SECTION-PERMISSIONS) (now (name .entry)))
         (now (out .exit)) r ⌝ }
 {
     lines::section_line(
         out,
-        VA(word(t, 8, i, 0)),
-        VA(word(t, 8, i, 1)),
-        word(t, 8, i, 2),
-        word(t, 8, i, 3),
-        word(t, 8, i, 4),
+        VA(word(t, SECTION_WORDS, i, SECTION_START)),
+        VA(word(t, SECTION_WORDS, i, SECTION_END)),
+        word(t, SECTION_WORDS, i, SECTION_FILE_START),
+        word(t, SECTION_WORDS, i, SECTION_FILE_END),
+        word(t, SECTION_WORDS, i, SECTION_PERMISSIONS),
         name,
     )
 }
@@ -85,10 +107,14 @@ fn section_named(t: &[u8], i: u32, name: &[u8], out: &mut [u8]) -> usize
 fn section_at(f: &[u8], t: &[u8], i: u32, out: &mut [u8]) -> usize
     ensures { λ r. ⌜ Puts (now (out .entry)) 0 (sectionLineAt (now (f .entry)) (now (t .entry)) i) (now (out .exit)) r ⌝ }
 {
-    if word(t, 8, i, 7) == 0 {
+    if word(t, SECTION_WORDS, i, SECTION_FILE_NUMBER) == 0 {
         section_named(t, i, b"UNDEF", out)
     } else {
-        let name = le::part(f, word(t, 8, i, 5) as usize, word(t, 8, i, 6) as usize);
+        let name = le::part(
+            f,
+            word(t, SECTION_WORDS, i, SECTION_NAME_START) as usize,
+            word(t, SECTION_WORDS, i, SECTION_NAME_LENGTH) as usize,
+        );
         section_named(t, i, name, out)
     }
 }
@@ -96,15 +122,28 @@ fn section_at(f: &[u8], t: &[u8], i: u32, out: &mut [u8]) -> usize
 fn symbol_at(f: &[u8], t: &[u8], i: u32, out: &mut [u8]) -> usize
     ensures { λ r. ⌜ Puts (now (out .entry)) 0 (symbolLineAt (now (f .entry)) (now (t .entry)) i) (now (out .exit)) r ⌝ }
 {
-    let name = le::part(f, word(t, 6, i, 2) as usize, word(t, 6, i, 3) as usize);
-    lines::symbol_line(out, VA(word(t, 6, i, 0)), kind_of(word(t, 6, i, 1)), name)
+    let name = le::part(
+        f,
+        word(t, SYMBOL_WORDS, i, NAME_START) as usize,
+        word(t, SYMBOL_WORDS, i, NAME_LENGTH) as usize,
+    );
+    lines::symbol_line(
+        out,
+        VA(word(t, SYMBOL_WORDS, i, ADDRESS)),
+        kind_of(word(t, SYMBOL_WORDS, i, SYMBOL_KIND)),
+        name,
+    )
 }
 
 fn extern_at(f: &[u8], t: &[u8], i: u32, out: &mut [u8]) -> usize
     ensures { λ r. ⌜ Puts (now (out .entry)) 0 (externLineAt (now (f .entry)) (now (t .entry)) i) (now (out .exit)) r ⌝ }
 {
-    let name = le::part(f, word(t, 4, i, 2) as usize, word(t, 4, i, 3) as usize);
-    lines::extern_line(out, VA(word(t, 4, i, 0)), name)
+    let name = le::part(
+        f,
+        word(t, EXTERN_WORDS, i, NAME_START) as usize,
+        word(t, EXTERN_WORDS, i, NAME_LENGTH) as usize,
+    );
+    lines::extern_line(out, VA(word(t, EXTERN_WORDS, i, ADDRESS)), name)
 }
 
 fn fix_at(t: &[u8], i: u32, out: &mut [u8]) -> usize
@@ -112,16 +151,21 @@ fn fix_at(t: &[u8], i: u32, out: &mut [u8]) -> usize
 {
     lines::fix_line(
         out,
-        VA(word(t, 3, i, 0)),
-        word(t, 3, i, 1),
-        word(t, 3, i, 2),
+        VA(word(t, FIXUP_WORDS, i, FIXUP_PLACE)),
+        word(t, FIXUP_WORDS, i, FIXUP_BITS),
+        word(t, FIXUP_WORDS, i, FIXUP_VALUE),
     )
 }
 
 fn skip_at(t: &[u8], i: u32, out: &mut [u8]) -> usize
     ensures { λ r. ⌜ Puts (now (out .entry)) 0 (skipLineAt (now (t .entry)) i) (now (out .exit)) r ⌝ }
 {
-    lines::skip_line(out, word(t, 3, i, 0), word(t, 3, i, 1), word(t, 3, i, 2))
+    lines::skip_line(
+        out,
+        word(t, SKIP_WORDS, i, SKIP_SECTION),
+        word(t, SKIP_WORDS, i, SKIP_RECORD),
+        word(t, SKIP_WORDS, i, SKIP_REASON),
+    )
 }
 
 // Line k of those from the skips on; past the last there is none.

@@ -1,12 +1,12 @@
 -- The pass over all relocations. Assumes nothing.
 use mathlib.Core.Path.{_≡_, refl, ap, _∙_}
 use mathlib.Core.List.{List, [], _∷_, _++_}
-use Prim.Native.Nat.{ℕ, _+_, _*_, _%_, _^_, _≤_, _<_}
+use Prim.Native.Nat.{ℕ, zero, suc, _+_, _*_, _%_, _^_, _≤_, _<_}
 use native.Mathlib.Omega.{arith}
 use native.Mathlib.Numerals.{add-one}
 use lib.ListN.{length, getD, length-append}
 use Rattle.util.specs.Fold.{foldRecords, foldSections, records-same}
-use Rattle.limits.specs.Limits.{FIXUP-BYTES, SKIP-BYTES}
+use Rattle.limits.specs.Records.{FIXUP-BYTES, SKIP-BYTES}
 use Rattle.le.specs.Le.{splice, splice-next, splice-long}
 use Rattle.arch.specs.declared.Arch.{Arch}
 use Rattle.arch.specs.declared.Offset.{Offset}
@@ -21,7 +21,7 @@ use Rattle.fixups.specs.declared.Fix.{Fix}
 use Rattle.fixups.specs.declared.Outcome.{Outcome}
 use Rattle.fixups.specs.declared.Outcome.the-variants.{Passed, Skipped, Refused, Fixup}
 use Rattle.targets.specs.Target.{skipNumber}
-use Rattle.fixups.specs.Outcome.{byHome, outcome, readOutcome, read-outcome}
+use Rattle.fixups.specs.Outcome.{byHome, outcome, no-home, readOutcome, read-outcome}
 use Rattle.fixups.specs.Value.{valueOf}
 use Rattle.fixups.specs.Lists.{appendStep, overRecords, overSections}
 use Rattle.fixups.specs.ListLaws.{section-behind}
@@ -166,6 +166,25 @@ read-end a f h homes target rs w base i p b c k q b′ c′ s e z m d l =
       fixes-same base (readOutcome a f target rs (wordHome w)) (outcome a f h (homeIn homes) target) i each k,
       skips-same base (readOutcome a f target rs (wordHome w)) (outcome a f h (homeIn homes) target) i each k,
     ) at s) m d (count-read f h i rs e) l
+
+-- ---- a section without a home writes nothing
+module _ (base : ℕ) (o : ℕ → ℕ → Outcome) (i : ℕ) (e : (k : ℕ) → o i k ≡ Passed) where
+  no-fixes : (n : ℕ) → overRecords (fixBytesAt base o) i n ≡ []
+  unfolding foldRecords appendStep fixBytesAt
+  no-fixes zero = refl
+  no-fixes (suc n) = rw (no-fixes n, e n)
+
+  no-skips : (n : ℕ) → overRecords (skipBytesAt o) i n ≡ []
+  unfolding foldRecords appendStep skipBytesAt
+  no-skips zero = refl
+  no-skips (suc n) = rw (no-skips n, e n)
+
+pub no-rows : (a : Arch) (f : List ℕ) (h : Header) (homes : List ℕ) (target : ℕ → Target) (base i w : ℕ) (p : Rows) (b c : List ℕ) → w ≡ getD homes i 0 → w ≡ 0
+    → Step p (overRecords (fixBytesAt base (outcome a f h (homeIn homes) target)) i (relocationCount f h i)) (overRecords (skipBytesAt (outcome a f h (homeIn homes) target)) i (relocationCount f h i)) b b c c p (2 ^ 32)
+no-rows a f h homes target base i w p b c e z =
+    let each = no-home a f h homes target i w e z in
+    rw (no-fixes base (outcome a f h (homeIn homes) target) i each (relocationCount f h i), no-skips base (outcome a f h (homeIn homes) target) i each (relocationCount f h i))
+    (record { written = written-none p b c; near = record { fixes = omega arith; skips = omega arith } })
 
 -- ---- the sections
 abbrev pub none : Rows

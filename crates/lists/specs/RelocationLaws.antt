@@ -3,11 +3,11 @@ use mathlib.Core.Path.{_≡_, refl, sym, ap, _∙_}
 use mathlib.Core.List.{List, [], _∷_, append-nil}
 use Prim.Native.Nat.{ℕ, _+_, _*_, _%_, _^_, _≤_, _<_}
 use native.Mathlib.Omega.{arith}
-use native.Mathlib.Nat.{add-zero, mod-mod}
+use native.Mathlib.Nat.{mod-mod}
 use lib.ListN.{length, getD}
 use Rattle.util.specs.Fold.{sections-both}
-use Rattle.limits.specs.Limits.{FIXUP-BYTES, SKIP-BYTES}
-use Rattle.le.specs.Le.{get, splice}
+use Rattle.limits.specs.Records.{FIXUP-WORDS, FIXUP-BYTES, FIXUP-PLACE, FIXUP-BITS, FIXUP-VALUE, SKIP-WORDS, SKIP-BYTES, SKIP-SECTION, SKIP-RECORD, SKIP-REASON}
+use Rattle.le.specs.Le.{splice}
 use Rattle.targets.specs.declared.Skip.{Skip}
 use Rattle.targets.specs.declared.Skip.the-variants.{NoSymbol, NoHome, NoSlot, NoType}
 use Rattle.fixups.specs.declared.Fix.{Fix}
@@ -18,7 +18,7 @@ use Rattle.fixups.specs.Value.{valueOf}
 use Rattle.fixups.specs.Tally.{isFixup, isSkipped, howMany}
 use Rattle.fixups.specs.TallyLaws.{fixups-counted, skips-counted}
 use Rattle.fixups.specs.Lists.{appendStep, overSections, fixesOf, fixAtRecord, fixList, SkipAt, skipsOf, skipAtRecord, skipList}
-use Rattle.words.specs.Words.{wordBytes, length-words}
+use Rattle.words.specs.Words.{wordBytes, wordOf, length-words}
 use Rattle.words.specs.Rows.{rowWords, rows-join, length-rows, row-back}
 use Rattle.lists.specs.Relocations.{fixWords, skipWords, fixBytes, skipBytes, fixBytesAt, skipBytesAt, fixTable, skipTable}
 
@@ -35,7 +35,7 @@ sections-rows words out bytes each count n =
 abbrev pub fixRows : ℕ → List Fix → List ℕ
 fixRows base xs = rowWords (fixWords base) xs
 
-length-fix : (base : ℕ) (x : Fix) → length (fixWords base x) ≡ 3
+length-fix : (base : ℕ) (x : Fix) → length (fixWords base x) ≡ FIXUP-WORDS
 unfolding fixWords
 length-fix base x = refl
 
@@ -57,37 +57,35 @@ module _ (base : ℕ) (o : ℕ → ℕ → Outcome) (count : ℕ → ℕ) (n : �
 
   pub length-fixes : length (fixTable base o count n) ≡ FIXUP-BYTES * length (fixList o count n)
   length-fixes =
-      rw fix-words (length-words (fixRows base (fixList o count n)) ∙ (let l = length-rows (fixWords base) 3 (length-fix base) (fixList o count n) in omega arith))
+      rw fix-words (length-words (fixRows base (fixList o count n)) ∙ (let l = length-rows (fixWords base) FIXUP-WORDS (length-fix base) (fixList o count n) in omega arith))
 
   -- the bytes that survey's count asks for
   pub fixes-fill : length (fixTable base o count n) ≡ FIXUP-BYTES * howMany isFixup o count n
   fixes-fill = length-fixes ∙ ap (λ (m : ℕ). FIXUP-BYTES * m) (fixups-counted o count n)
 
   module _ (k : ℕ) (b : List ℕ) (d : Fix) (f : FIXUP-BYTES * length (fixList o count n) ≤ length b) (h : k < length (fixList o count n)) where
-    pub fix-back : (w : ℕ) → w < 3
-        → get 8 (splice b 0 (fixTable base o count n)) (FIXUP-BYTES * k + 8 * w) ≡ getD (fixWords base (getD (fixList o count n) k d)) w 0 % 2 ^ 64
+    pub fix-back : (w : ℕ) → w < FIXUP-WORDS → wordOf FIXUP-WORDS (splice b 0 (fixTable base o count n)) k w ≡ getD (fixWords base (getD (fixList o count n) k d)) w 0 % 2 ^ 64
     fix-back w q =
-        let e : FIXUP-BYTES * k + 8 * w ≡ 8 * (3 * k + w) = omega arith in
-        rw (fix-words, e) (row-back (fixWords base) 3 (length-fix base) (fixList o count n) b k w d (omega arith) h q)
+        rw fix-words (row-back (fixWords base) FIXUP-WORDS (length-fix base) (fixList o count n) b k w d (omega arith) h q)
 
     -- the three words of fixup k
-    pub fix-place : get 8 (splice b 0 (fixTable base o count n)) (FIXUP-BYTES * k) ≡ (base + getD (fixList o count n) k d .place .0) % 2 ^ 64
+    pub fix-place : wordOf FIXUP-WORDS (splice b 0 (fixTable base o count n)) k FIXUP-PLACE ≡ (base + getD (fixList o count n) k d .place .0) % 2 ^ 64
     unfolding fixWords
-    fix-place = rw add-zero at (fix-back 0 (omega arith))
+    fix-place = fix-back FIXUP-PLACE (omega arith)
 
-    pub fix-bits : get 8 (splice b 0 (fixTable base o count n)) (FIXUP-BYTES * k + 8) ≡ getD (fixList o count n) k d .bits % 2 ^ 64
+    pub fix-bits : wordOf FIXUP-WORDS (splice b 0 (fixTable base o count n)) k FIXUP-BITS ≡ getD (fixList o count n) k d .bits % 2 ^ 64
     unfolding fixWords
-    fix-bits = fix-back 1 (omega arith)
+    fix-bits = fix-back FIXUP-BITS (omega arith)
 
-    pub fix-value : get 8 (splice b 0 (fixTable base o count n)) (FIXUP-BYTES * k + 16) ≡ valueOf base (getD (fixList o count n) k d)
+    pub fix-value : wordOf FIXUP-WORDS (splice b 0 (fixTable base o count n)) k FIXUP-VALUE ≡ valueOf base (getD (fixList o count n) k d)
     unfolding fixWords
-    fix-value = fix-back 2 (omega arith) ∙ value-fits base (getD (fixList o count n) k d)
+    fix-value = fix-back FIXUP-VALUE (omega arith) ∙ value-fits base (getD (fixList o count n) k d)
 
 -- ---- skips: the words of one
 unfoldable pub skipRow : SkipAt → List ℕ
 skipRow s = s .section ∷ s .index ∷ skipNumber (s .reason) ∷ []
 
-length-skip : (s : SkipAt) → length (skipRow s) ≡ 3
+length-skip : (s : SkipAt) → length (skipRow s) ≡ SKIP-WORDS
 unfolding skipRow
 length-skip s = refl
 
@@ -111,26 +109,25 @@ module _ (o : ℕ → ℕ → Outcome) (count : ℕ → ℕ) (n : ℕ) where
 
   pub length-skips : length (skipTable o count n) ≡ SKIP-BYTES * length (skipList o count n)
   length-skips =
-      rw skip-words (length-words (rowWords skipRow (skipList o count n)) ∙ (let l = length-rows skipRow 3 length-skip (skipList o count n) in omega arith))
+      rw skip-words (length-words (rowWords skipRow (skipList o count n)) ∙ (let l = length-rows skipRow SKIP-WORDS length-skip (skipList o count n) in omega arith))
 
   pub skips-fill : length (skipTable o count n) ≡ SKIP-BYTES * howMany isSkipped o count n
   skips-fill = length-skips ∙ ap (λ (m : ℕ). SKIP-BYTES * m) (skips-counted o count n)
 
   module _ (k : ℕ) (b : List ℕ) (d : SkipAt) (f : SKIP-BYTES * length (skipList o count n) ≤ length b) (h : k < length (skipList o count n)) where
-    pub skip-back : (w : ℕ) → w < 3 → get 8 (splice b 0 (skipTable o count n)) (SKIP-BYTES * k + 8 * w) ≡ getD (skipRow (getD (skipList o count n) k d)) w 0 % 2 ^ 64
+    pub skip-back : (w : ℕ) → w < SKIP-WORDS → wordOf SKIP-WORDS (splice b 0 (skipTable o count n)) k w ≡ getD (skipRow (getD (skipList o count n) k d)) w 0 % 2 ^ 64
     skip-back w q =
-        let e : SKIP-BYTES * k + 8 * w ≡ 8 * (3 * k + w) = omega arith in
-        rw (skip-words, e) (row-back skipRow 3 length-skip (skipList o count n) b k w d (omega arith) h q)
+        rw skip-words (row-back skipRow SKIP-WORDS length-skip (skipList o count n) b k w d (omega arith) h q)
 
     -- the three words of skip k
-    pub skip-section : get 8 (splice b 0 (skipTable o count n)) (SKIP-BYTES * k) ≡ getD (skipList o count n) k d .section % 2 ^ 64
+    pub skip-section : wordOf SKIP-WORDS (splice b 0 (skipTable o count n)) k SKIP-SECTION ≡ getD (skipList o count n) k d .section % 2 ^ 64
     unfolding skipRow
-    skip-section = rw add-zero at (skip-back 0 (omega arith))
+    skip-section = skip-back SKIP-SECTION (omega arith)
 
-    pub skip-index : get 8 (splice b 0 (skipTable o count n)) (SKIP-BYTES * k + 8) ≡ getD (skipList o count n) k d .index % 2 ^ 64
+    pub skip-index : wordOf SKIP-WORDS (splice b 0 (skipTable o count n)) k SKIP-RECORD ≡ getD (skipList o count n) k d .index % 2 ^ 64
     unfolding skipRow
-    skip-index = skip-back 1 (omega arith)
+    skip-index = skip-back SKIP-RECORD (omega arith)
 
-    pub skip-reason : get 8 (splice b 0 (skipTable o count n)) (SKIP-BYTES * k + 16) ≡ skipNumber (getD (skipList o count n) k d .reason)
+    pub skip-reason : wordOf SKIP-WORDS (splice b 0 (skipTable o count n)) k SKIP-REASON ≡ skipNumber (getD (skipList o count n) k d .reason)
     unfolding skipRow
-    skip-reason = skip-back 2 (omega arith) ∙ number-fits (getD (skipList o count n) k d .reason)
+    skip-reason = skip-back SKIP-REASON (omega arith) ∙ number-fits (getD (skipList o count n) k d .reason)

@@ -5,7 +5,7 @@ use lib.ListN.{length}
 use Rattle.le.specs.Le.{splice}
 use Rattle.lists.specs.declared.Rows.{Rows}
 use Prim.Native.Nat.{ℕ, _+_, _*_, _≤_}
-use Rattle.limits.specs.Limits.{FIXUP-BYTES, SKIP-BYTES}
+use Rattle.limits.specs.Records.{FIXUP-BYTES, SKIP-BYTES}
 use Rattle.targets.specs.declared.Skip.{Skip}
 use Rattle.fixups.specs.declared.Fix.{Fix}
 use Rattle.fixups.specs.declared.Outcome.{Outcome}

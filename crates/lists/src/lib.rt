@@ -11,7 +11,7 @@ ghost use Prim.Native.Nat.{_*_, _^_, _<_, _≤_};
 ghost use Rattle.object.specs.Section.{relocationCount};
 ghost use Rattle.object.specs.Relocation.{relocationIn, recordAt};
 ghost use Rattle.le.specs.Le.{splice};
-ghost use Rattle.limits.specs.Limits.{FIXUP-BYTES, SKIP-BYTES};
+ghost use Rattle.limits.specs.Records.{FIXUP-BYTES, SKIP-BYTES};
 ghost use Rattle.homes.specs.Home.{homeIn, wordHome};
 ghost use Rattle.targets.specs.Target.{skipNumber};
 ghost use Rattle.targets.specs.Table.{targetIn};
@@ -120,7 +120,7 @@ fn outcome_of(
     fixups::outcome_at(word, r.address, kinds::type_of(arch, r.typ), target)
 }
 
-// The records of section i.
+// The records of section i, one by one.
 fn write_section(
     arch: Arch,
     f: &[u8],
@@ -155,6 +155,48 @@ fn write_section(
     q
 }
 
+// The records of section i: without a home all are passed, and none is read.
+fn write_next(
+    arch: Arch,
+    f: &[u8],
+    h: Header,
+    homes: &[u32],
+    starts: &[u32],
+    undef: u32,
+    codes: &[u16],
+    base: VA,
+    i: u32,
+    p: Rows,
+    fixups: &mut [u8],
+    skips: &mut [u8],
+) -> Rows
+    requires { ⌜ (i < 2 ^ 16) × (p .fixups ≤ 2 ^ 32 * i) × (p .skips ≤ 2 ^ 32 * i) ⌝ }
+    ensures { λ r.
+        ⌜ Step p
+        (overRecords (fixBytesAt (base .0) (outcome arch (now (f .entry)) h (homeIn (now (homes .entry))) (targetIn (now (homes .entry)) (now (starts .entry)) undef (now (codes .entry))))) i (relocationCount (now (f .entry)) h i))
+        (overRecords (skipBytesAt (outcome arch (now (f .entry)) h (homeIn (now (homes .entry))) (targetIn (now (homes .entry)) (now (starts .entry)) undef (now (codes .entry))))) i (relocationCount (now (f .entry)) h i))
+        (now (fixups .entry)) (now (fixups .exit)) (now (skips .entry)) (now (skips .exit)) r (2 ^ 32) ⌝ }
+{
+    if le::word_at(homes, i as usize) == 0 {
+        p
+    } else {
+        write_section(
+            arch,
+            f,
+            h,
+            homes,
+            starts,
+            undef,
+            codes,
+            base,
+            i,
+            p,
+            fixups,
+            skips,
+        )
+    }
+}
+
 // All fixups and all skips, in section and record order.
 pub fn write_relocations(
     arch: Arch,
@@ -181,7 +223,7 @@ pub fn write_relocations(
     };
     let mut i: u32 = 0;
     while i < n {
-        q = write_section(
+        q = write_next(
             arch,
             f,
             h,

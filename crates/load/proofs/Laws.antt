@@ -2,13 +2,13 @@
 use mathlib.Core.Path.{_≡_, refl, sym, ap, _∙_}
 use mathlib.Core.Bool.{true, false}
 use mathlib.Core.List.{List, _++_}
-use Prim.Native.Nat.{ℕ, zero, suc, _-_}
+use Prim.Native.Nat.{ℕ, zero, suc, _-_, _≤_, _<_}
 use native.Mathlib.Omega.{arith}
 use lib.Dec.{eqb, leb}
 use lib.ListN.{length, replicate}
 use lib.Seq.{take-append-seam}
 use borrow.Author.Tests.{le-leb, ne-eqb}
-use Rattle.limits.specs.Limits.{MAX-SECTIONS, MAX-SYMBOLS, MAX-EXTERNS, EXTERN-ROOM}
+use Rattle.limits.specs.Limits.{MAX-SECTIONS, FEW-SYMBOLS, MAX-SYMBOLS, MAX-EXTERNS, EXTERN-ROOM}
 use Rattle.util.specs.Pick.{pick}
 use Rattle.le.specs.Le.{part, part-front}
 use Rattle.object.specs.declared.Header.{Header}
@@ -16,6 +16,8 @@ use Rattle.object.specs.Format.{headerOf}
 use Rattle.externs.specs.Externs.{externs, slotWords}
 use Rattle.survey.specs.declared.answer.Counts.{Counts}
 use Rattle.survey.specs.Survey.{firstFailed, counts}
+use Rattle.survey.specs.Surveying.{codeRoom}
+use Rattle.survey.specs.TableLaws.{few-room, many-room}
 use Rattle.plan.specs.declared.Lengths.{Lengths}
 use Rattle.plan.specs.declared.Plan.{Plan}
 use Rattle.plan.specs.declared.Plan.the-variants as plan
@@ -57,17 +59,18 @@ module _ (f : List ℕ) (h : Header) (homes starts codes slots : List ℕ) (base
   known-is =
       record { home = found .home; target = found .target; begin = found .begin; names = externs-are; sections = found .sections; pages = found .pages; few = rw externs-are (found .names) }
 
--- the arrays of zeros that load lends
-blank : Blank (replicate MAX-SECTIONS 0) (replicate MAX-SECTIONS 0) (replicate MAX-SYMBOLS 0) (replicate EXTERN-ROOM 0)
-blank = record { no-homes = refl; no-starts = refl; no-codes = refl; no-slots = refl }
+-- the arrays of zeros that are lent to the plan
+module _ (f : List ℕ) (codes₀ : List ℕ) (zeros : codes₀ ≡ replicate (codeRoom (headerOf f)) 0) where
+  blank : Blank (headerOf f) (replicate MAX-SECTIONS 0) (replicate MAX-SECTIONS 0) codes₀ (replicate EXTERN-ROOM 0)
+  blank = record { no-homes = refl; no-starts = refl; no-codes = zeros; no-slots = refl }
 
-pub slots-long : (f : List ℕ) (base : ℕ) (l : Lengths) (homes starts codes slots : List ℕ) (p : Plan)
-    → (Blank (replicate MAX-SECTIONS 0) (replicate MAX-SECTIONS 0) (replicate MAX-SYMBOLS 0) (replicate EXTERN-ROOM 0) → Plans f (headerOf f) base l homes starts codes slots p) → EXTERN-ROOM ≡ length slots
-slots-long f base l homes starts codes slots p made = sym (made blank .long)
+  pub slots-long : (base : ℕ) (l : Lengths) (homes starts codes slots : List ℕ) (p : Plan)
+      → (Blank (headerOf f) (replicate MAX-SECTIONS 0) (replicate MAX-SECTIONS 0) codes₀ (replicate EXTERN-ROOM 0) → Plans f (headerOf f) base l homes starts codes slots p) → EXTERN-ROOM ≡ length slots
+  slots-long base l homes starts codes slots p made = sym (made blank .long)
 
 -- what the plan gives for them
-module _ (f : List ℕ) (base : ℕ) (s : Storage) (homes starts codes slots : List ℕ) (p : Plan)
-    (made : Blank (replicate MAX-SECTIONS 0) (replicate MAX-SECTIONS 0) (replicate MAX-SYMBOLS 0) (replicate EXTERN-ROOM 0) → Plans f (headerOf f) base (lengthsOf s) homes starts codes slots p) where
+module _ (f : List ℕ) (codes₀ : List ℕ) (zeros : codes₀ ≡ replicate (codeRoom (headerOf f)) 0) (base : ℕ) (s : Storage) (homes starts codes slots : List ℕ) (p : Plan)
+    (made : Blank (headerOf f) (replicate MAX-SECTIONS 0) (replicate MAX-SECTIONS 0) codes₀ (replicate EXTERN-ROOM 0) → Plans f (headerOf f) base (lengthsOf s) homes starts codes slots p) where
   abbrev h : Header
   h = headerOf f
 
@@ -75,7 +78,7 @@ module _ (f : List ℕ) (base : ℕ) (s : Storage) (homes starts codes slots : L
   code = firstFailed (loadChecks f h base s)
 
   plans : Plans f h base (lengthsOf s) homes starts codes slots p
-  plans = made blank
+  plans = made (blank f codes₀ zeros)
 
   no-case : (k n : ℕ) → code ≡ k → k ≡ n → (k ≡ 0 → ⊥) → Loads f base s s (Refused n)
   no-case zero n e q z = absurd (z refl)
@@ -92,3 +95,19 @@ module _ (f : List ℕ) (base : ℕ) (s : Storage) (homes starts codes slots : L
       let t = told f h homes starts codes slots base (lengthsOf s) p plans c n is in
       let e : after ≡ stored f h base s = wrote (known-is f h homes starts codes slots base (lengthsOf s) p plans c n is) in
       record { says = rw (t .0) (ap Loaded (t .1)); leaves = rw (t .0) e }
+
+-- ---- the array for the codes
+pub few-codes : (f : List ℕ) → headerOf f .symbols ≤ FEW-SYMBOLS → replicate {A = ℕ} FEW-SYMBOLS 0 ≡ replicate (codeRoom (headerOf f)) 0
+few-codes f l = ap (λ (n : ℕ). replicate {A = ℕ} n 0) (few-room (headerOf f) l)
+
+pub many-codes : (f : List ℕ) → FEW-SYMBOLS < headerOf f .symbols → replicate {A = ℕ} MAX-SYMBOLS 0 ≡ replicate (codeRoom (headerOf f)) 0
+many-codes f l = ap (λ (n : ℕ). replicate {A = ℕ} n 0) (many-room (headerOf f) l)
+
+module _ (f : List ℕ) (h : Header) (is : h ≡ headerOf f) where
+  pub few-header : h .symbols ≤ FEW-SYMBOLS → headerOf f .symbols ≤ FEW-SYMBOLS
+  few-header l = rw is at l
+
+  pub many-header : FEW-SYMBOLS < h .symbols → FEW-SYMBOLS < headerOf f .symbols
+  many-header l = rw is at l
+
+pub ruleset sizes = (few-codes, many-codes, few-header, many-header)

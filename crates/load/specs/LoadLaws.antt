@@ -15,7 +15,8 @@ use Rattle.object.specs.Format.{headerOf}
 use Rattle.object.specs.Section.{relocationCount}
 use Rattle.layout.specs.Layout.{undefStart, mappedPages, startsTo, tableRecords}
 use Rattle.homes.specs.Home.{sectionHome, homeRecords}
-use Rattle.limits.specs.Limits.{MAX-PAGES, MAX-EXTERNS, SECTION-BYTES, SYMBOL-BYTES, EXTERN-BYTES, FIXUP-BYTES, SKIP-BYTES}
+use Rattle.limits.specs.Limits.{MAX-PAGES, MAX-EXTERNS}
+use Rattle.limits.specs.Records.{SECTION-BYTES, SYMBOL-BYTES, EXTERN-BYTES, FIXUP-BYTES, SKIP-BYTES}
 use Rattle.externs.specs.Externs.{externs}
 use Rattle.fixups.specs.Tally.{isFixup, isSkipped, howMany, tallyOf}
 use Rattle.refusal.specs.Refusal.{TARGET, PLACE, BASE, STORAGE}

@@ -7,12 +7,13 @@ use native.Mathlib.Numerals.{add-one}
 use lib.Dec.{T}
 use lib.ListN.{length, set, drop, drop-of-length-le}
 use lib.Seq.{drop-cons}
+use Rattle.limits.specs.Records.{WORD, SECTION-WORDS}
 use Rattle.util.specs.Pick.{pick}
 use Rattle.le.specs.Le.{get}
 use Rattle.arch.specs.Address.{va}
-use Rattle.words.specs.Words.{WORD, wordOf}
+use Rattle.words.specs.Words.{wordOf}
 use Rattle.section.specs.declared.Section.{Section}
-use Rattle.module.specs.Questions.{firstOf, SECTION-WORDS, sectionAt, fillTo, blank, nth}
+use Rattle.module.specs.Questions.{firstOf, sectionAt, fillTo, blank, nth}
 
 -- ---- a scan by index: what is left of the list from i on
 picks : {A : Type 0} (b : Bool) (x y : A) → T b → pick b x y ≡ x

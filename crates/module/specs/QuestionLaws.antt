@@ -14,7 +14,7 @@ use Rattle.refusal.specs.Refusal.{NO-SECTION}
 use Rattle.util.specs.Pick.{pick, yes-no, and-left, and-both}
 use Rattle.arch.specs.declared.VA.{VA}
 use Rattle.arch.specs.Address.{va}
-use Rattle.limits.specs.Limits.{SECTION-BYTES}
+use Rattle.limits.specs.Records.{SECTION-BYTES}
 use Rattle.refusal.specs.declared.Number.the-variants.{Value, Refusal}
 use Rattle.answers.specs.declared.AddressAnswer.the-variants.{Found}
 use Rattle.section.specs.declared.Section.{Section}

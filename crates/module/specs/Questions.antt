@@ -12,8 +12,8 @@ use Rattle.refusal.specs.declared.Number.{Number}
 use Rattle.refusal.specs.declared.Number.the-variants.{Value, Refusal}
 use Rattle.answers.specs.declared.AddressAnswer.{AddressAnswer}
 use Rattle.answers.specs.declared.AddressAnswer.the-variants.{Found, Refused}
-use Rattle.words.specs.Words.{WORD, wordOf}
-use Rattle.limits.specs.Limits.{SECTION-BYTES}
+use Rattle.words.specs.Words.{wordOf}
+use Rattle.limits.specs.Records.{SECTION-WORDS, SECTION-BYTES, SECTION-START, SECTION-END, SECTION-FILE-START, SECTION-FILE-END, SECTION-PERMISSIONS, SECTION-NAME-START, SECTION-NAME-LENGTH, SECTION-FILE-NUMBER}
 use Rattle.section.specs.declared.Section.{Section}
 use Rattle.section.specs.declared.Probe.{Probe}
 use Rattle.section.specs.declared.OffsetProbe.{OffsetProbe}
@@ -87,21 +87,17 @@ abbrev pub isInImage : List Section → VA → Bool
 isInImage t a = isBacked t (fileOffset t a)
 
 -- ---- the table that load wrote
--- how many words a record has
-abbrev pub SECTION-WORDS : ℕ
-SECTION-WORDS = SECTION-BYTES / WORD
-
 -- record r, its words in their order
 abbrev pub sectionAt : List ℕ → ℕ → Section
 sectionAt table r = record {
-  start = va (wordOf SECTION-WORDS table r 0);
-  end = va (wordOf SECTION-WORDS table r 1);
-  «file_start» = wordOf SECTION-WORDS table r 2;
-  «file_end» = wordOf SECTION-WORDS table r 3;
-  permissions = wordOf SECTION-WORDS table r 4;
-  «name_start» = wordOf SECTION-WORDS table r 5;
-  «name_length» = wordOf SECTION-WORDS table r 6;
-  number = wordOf SECTION-WORDS table r 7;
+  start = va (wordOf SECTION-WORDS table r SECTION-START);
+  end = va (wordOf SECTION-WORDS table r SECTION-END);
+  «file_start» = wordOf SECTION-WORDS table r SECTION-FILE-START;
+  «file_end» = wordOf SECTION-WORDS table r SECTION-FILE-END;
+  permissions = wordOf SECTION-WORDS table r SECTION-PERMISSIONS;
+  «name_start» = wordOf SECTION-WORDS table r SECTION-NAME-START;
+  «name_length» = wordOf SECTION-WORDS table r SECTION-NAME-LENGTH;
+  number = wordOf SECTION-WORDS table r SECTION-FILE-NUMBER;
 }
 
 -- t with its first n records from the table

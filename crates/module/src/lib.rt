@@ -5,7 +5,7 @@ ghost use Prim.Native.Nat.{_+_, _*_, _<_, _≤_, _/_, _^_, min};
 ghost use Rattle.refusal.specs.Refusal.{NO-ENTRY};
 ghost use Rattle.refusal.specs.declared.Number.the-variants.{Value, Refusal};
 ghost use Rattle.words.specs.Words.{wordOf};
-ghost use Rattle.limits.specs.Limits.{SECTION-BYTES};
+ghost use Rattle.limits.specs.Records.{SECTION-BYTES, SECTION-WORDS};
 ghost use Rattle.module.specs.Questions.{
   moved,
   offsetIn,
@@ -22,12 +22,22 @@ ghost use Rattle.module.specs.Questions.{
   probeRva,
   isBacked,
   isInImage,
-  SECTION-WORDS,
   sectionAt,
   Fills,
 };
 use answers::AddressAnswer;
 use arch::VA;
+use limits::SECTION_BYTES;
+use limits::SECTION_END;
+use limits::SECTION_FILE_END;
+use limits::SECTION_FILE_NUMBER;
+use limits::SECTION_FILE_START;
+use limits::SECTION_NAME_LENGTH;
+use limits::SECTION_NAME_START;
+use limits::SECTION_PERMISSIONS;
+use limits::SECTION_START;
+use limits::SECTION_WORDS;
+use limits::WORD;
 use refusal::NO_ENTRY;
 use refusal::NO_SECTION;
 use refusal::Number;
@@ -35,15 +45,12 @@ use section::OffsetProbe;
 use section::Probe;
 use section::Section;
 
-// How many words a record has.
-const SECTION_WORDS: usize = 8;
-
 // Word w of record r of the section table that load wrote.
 fn section_word(table: &[u8], r: usize, w: u8) -> u64
     requires { ⌜ (SECTION-BYTES * r + SECTION-BYTES ≤ 2 ^ 64) × (w < SECTION-WORDS) ⌝ }
     ensures { λ x. ⌜ x ≡ wordOf SECTION-WORDS (now (table .entry)) r w ⌝ }
 {
-    le::u64_at(table, words::WORD * (SECTION_WORDS * r + w as usize))
+    le::u64_at(table, WORD * (SECTION_WORDS as usize * r + w as usize))
 }
 
 // Record r, its words in their order.
@@ -52,14 +59,14 @@ fn section_at(table: &[u8], r: usize) -> Section
     ensures { λ s. ⌜ s ≡ sectionAt (now (table .entry)) r ⌝ }
 {
     Section {
-        start: VA(section_word(table, r, 0)),
-        end: VA(section_word(table, r, 1)),
-        file_start: section_word(table, r, 2),
-        file_end: section_word(table, r, 3),
-        permissions: section_word(table, r, 4),
-        name_start: section_word(table, r, 5),
-        name_length: section_word(table, r, 6),
-        number: section_word(table, r, 7),
+        start: VA(section_word(table, r, SECTION_START)),
+        end: VA(section_word(table, r, SECTION_END)),
+        file_start: section_word(table, r, SECTION_FILE_START),
+        file_end: section_word(table, r, SECTION_FILE_END),
+        permissions: section_word(table, r, SECTION_PERMISSIONS),
+        name_start: section_word(table, r, SECTION_NAME_START),
+        name_length: section_word(table, r, SECTION_NAME_LENGTH),
+        number: section_word(table, r, SECTION_FILE_NUMBER),
     }
 }
 
@@ -67,7 +74,7 @@ fn section_at(table: &[u8], r: usize) -> Section
 fn to_fill(bytes: usize, room: usize) -> usize
     ensures { λ r. ⌜ r ≡ min (bytes / SECTION-BYTES) room ⌝ }
 {
-    let n = bytes / limits::SECTION_BYTES;
+    let n = bytes / SECTION_BYTES;
     if n < room { n } else { room }
 }
 

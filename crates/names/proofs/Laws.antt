@@ -14,7 +14,7 @@ use lib.Seq.{drop-cons}
 use Rattle.util.specs.Pick.{pick, le-or-lt}
 use Rattle.le.specs.Le.{get, part, part-most}
 use Rattle.object.specs.declared.Header.{Header}
-use Rattle.object.specs.Format.{NAME-SIZE, symbolRecordAt, stringTable, stringLength}
+use Rattle.object.specs.Format.{NAME-SIZE, LONG-OFFSET-AT, symbolRecordAt, stringTable, stringLength}
 use Rattle.names.specs.declared.Order.{Order}
 use Rattle.names.specs.declared.Order.the-variants.{Less, Equal, Greater}
 use Rattle.names.specs.declared.Span.{Span}
@@ -180,7 +180,7 @@ module _ (f : List ℕ) (h : Header) where
       long-open k = rw (← is, ← at, ← ran, le-leb 4 offset low, le-ltb n (l - offset) k)
 
   module _ (at : ℕ) where
-    pub symbol-long : (x : Name) (r o : ℕ) → r ≡ get 4 f at → eqb r 0 ≡ true → o ≡ get 4 f (at + 4) → x ≡ longRun f h o → x ≡ symbolRun f h at
+    pub symbol-long : (x : Name) (r o : ℕ) → r ≡ get 4 f at → eqb r 0 ≡ true → o ≡ get 4 f (at + LONG-OFFSET-AT) → x ≡ longRun f h o → x ≡ symbolRun f h at
     unfolding symbolRun pick
     symbol-long x r o e z q p = rw (← e, z, ← q) p
 
@@ -302,7 +302,7 @@ module _ (f : List ℕ) (h : Header) where
   long-span-is t l m o a b c = rw (c, b, a)
 
   module _ (at j : ℕ) (is : at ≡ symbolRecordAt h j) (r : ℕ) (read : r ≡ get 4 f at) where
-    pub span-long : (x : Span) (o : ℕ) → eqb r 0 ≡ true → o ≡ get 4 f (at + 4) → x ≡ longSpan f h o → x ≡ symbolSpan f h j
+    pub span-long : (x : Span) (o : ℕ) → eqb r 0 ≡ true → o ≡ get 4 f (at + LONG-OFFSET-AT) → x ≡ longSpan f h o → x ≡ symbolSpan f h j
     unfolding spanAt pick
     span-long x o z q p = rw (← is, ← read, z, ← q) p
 

@@ -8,7 +8,7 @@ use Rattle.refusal.specs.Refusal.{NAME}
 use Rattle.util.specs.Pick.{pick}
 use Rattle.le.specs.Le.{get, part}
 use Rattle.object.specs.declared.Header.{Header}
-use Rattle.object.specs.Format.{NAME-SIZE, LENGTH-SIZE, sectionHeaderAt, symbolRecordAt, stringTable, stringLength}
+use Rattle.object.specs.Format.{NAME-SIZE, LONG-OFFSET-AT, LENGTH-SIZE, sectionHeaderAt, symbolRecordAt, stringTable, stringLength}
 use Rattle.names.specs.declared.Name.{Name}
 use Rattle.names.specs.declared.Name.the-variants.{Good, Bad}
 use Rattle.names.specs.declared.Span.{Span}
@@ -20,6 +20,16 @@ use Rattle.names.specs.Bytes.{run, upToZero, goodSectionName, goodSymbol
 unfoldable pub nameBytes : List ℕ → Name → List ℕ
 nameBytes f (Good at n) = part f at n
 nameBytes f Bad = []
+
+-- where a name starts in the file; a bad name has no place, and counts as 0
+abbrev pub nameStart : Name → ℕ
+nameStart (Good at n) = at
+nameStart Bad = 0
+
+-- how many bytes it has; a bad name none
+abbrev pub nameLength : Name → ℕ
+nameLength (Good at n) = n
+nameLength Bad = 0
 
 -- ---- where a name stands
 -- in the field itself: up to the first zero, or all eight bytes
@@ -35,7 +45,7 @@ longRun f h offset =
 
 -- a symbol's: with the first four bytes zero the next four are the offset; else a first byte of zero is bad, and the name is in the field
 unfoldable pub symbolRun : List ℕ → Header → ℕ → Name
-symbolRun f h at = pick (eqb (get 4 f at) 0) (longRun f h (get 4 f (at + 4))) (pick (eqb (getD f at 0) 0) Bad (shortRun f at))
+symbolRun f h at = pick (eqb (get 4 f at) 0) (longRun f h (get 4 f (at + LONG-OFFSET-AT))) (pick (eqb (getD f at 0) 0) Bad (shortRun f at))
 
 -- ---- a section's name that begins with a slash: one to seven digits behind it are the offset; any other form is bad
 -- the byte `/`
@@ -98,7 +108,7 @@ longSpan f h offset = record { at = stringTable h + offset; most = leftFrom (str
 
 -- a symbol's: with the first four bytes zero the next four are the offset; else the field itself
 unfoldable pub spanAt : List ℕ → Header → ℕ → Span
-spanAt f h at = pick (eqb (get 4 f at) 0) (longSpan f h (get 4 f (at + 4))) (record { at = at; most = NAME-SIZE })
+spanAt f h at = pick (eqb (get 4 f at) 0) (longSpan f h (get 4 f (at + LONG-OFFSET-AT))) (record { at = at; most = NAME-SIZE })
 
 -- of symbol record j
 abbrev pub symbolSpan : List ℕ → Header → ℕ → Span

@@ -15,7 +15,7 @@ use Rattle.util.specs.Pick.{pick, yes-no, le-or-lt, and-left, and-right}
 use Rattle.util.specs.Prefix.{all-at}
 use Rattle.le.specs.Le.{get, part, IsBytes, length-part, part-none}
 use Rattle.object.specs.declared.Header.{Header}
-use Rattle.object.specs.Format.{NAME-SIZE, sectionHeaderAt, symbolRecordAt, stringTable, stringLength}
+use Rattle.object.specs.Format.{NAME-SIZE, LONG-OFFSET-AT, sectionHeaderAt, symbolRecordAt, stringTable, stringLength}
 use Rattle.names.specs.declared.Name.{Name}
 use Rattle.names.specs.declared.Name.the-variants.{Good, Bad}
 use Rattle.names.specs.Bytes.{run, upToZero, visible, allVisible, goodSectionName, goodSymbolName, allDigits, decimal}
@@ -256,8 +256,8 @@ module _ (f : List ℕ) (h : Header) (field at n : ℕ) where
   pub symbol-name-found : symbolNameAt f h field ≡ Good at n → Found f h field at n
   unfolding symbolRun
   symbol-name-found e =
-      either (eqb (get 4 f field) 0) (longRun f h (get 4 f (field + 4))) (pick (eqb (getD f field 0) 0) Bad (shortRun f field))
-      (λ l. long-found (get 4 f (field + 4)) l)
+      either (eqb (get 4 f field) 0) (longRun f h (get 4 f (field + LONG-OFFSET-AT))) (pick (eqb (getD f field 0) 0) Bad (shortRun f field))
+      (λ l. long-found (get 4 f (field + LONG-OFFSET-AT)) l)
       (λ s. either (eqb (getD f field 0) 0) Bad (shortRun f field) (λ b. bad-found b) (λ k. short-found k) s)
       (checked-is goodSymbolName f (symbolRun f h field) at n e)
 
@@ -354,9 +354,9 @@ module _ (f : List ℕ) (h : Header) (at n : ℕ) where
   unfolding symbolRun spanAt pick
   run-text field e = by-long (eqb (get 4 f field) 0) e
     where
-      by-long : (b : Bool) → pick b (longRun f h (get 4 f (field + 4))) (pick (eqb (getD f field 0) 0) Bad (shortRun f field)) ≡ Good at n
-          → spanText f (pick b (longSpan f h (get 4 f (field + 4))) (record { at = field; most = NAME-SIZE })) ≡ part f at n
-      by-long true q = long-text (get 4 f (field + 4)) q
+      by-long : (b : Bool) → pick b (longRun f h (get 4 f (field + LONG-OFFSET-AT))) (pick (eqb (getD f field 0) 0) Bad (shortRun f field)) ≡ Good at n
+          → spanText f (pick b (longSpan f h (get 4 f (field + LONG-OFFSET-AT))) (record { at = field; most = NAME-SIZE })) ≡ part f at n
+      by-long true q = long-text (get 4 f (field + LONG-OFFSET-AT)) q
       by-long false q = short-text field q
 
 -- wherever a symbol's name is good, it is the bytes that names are compared by

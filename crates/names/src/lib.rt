@@ -5,6 +5,8 @@ mod spelling;
 pub use place::SLASH;
 pub use place::is_good;
 pub use place::name_bytes;
+pub use place::name_length;
+pub use place::name_start;
 pub use place::section_name;
 pub use place::section_text;
 pub use place::slash_offset;

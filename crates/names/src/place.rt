@@ -22,6 +22,8 @@ ghost use Rattle.names.specs.Name.{
   sectionName,
   symbolName,
   nameBytes,
+  nameStart,
+  nameLength,
   isGood,
   sectionText,
   leftFrom,
@@ -60,7 +62,7 @@ fn symbol_run(f: &[u8], h: Header, at: usize) -> Name
 {
     let long = le::u32_at(f, at) == 0;
     if long {
-        return long_run(f, h, le::u32_at(f, at + 4) as u64);
+        return long_run(f, h, le::u32_at(f, at + object::LONG_OFFSET_AT) as u64);
     }
     let empty = le::byte_at(f, at) == 0;
     if empty {
@@ -160,6 +162,26 @@ pub fn symbol_name(f: &[u8], h: Header, j: u32) -> Name
     checked_symbol(f, symbol_run(f, h, object::symbol_record_at(h, j)))
 }
 
+// Where a name starts in the file.
+pub fn name_start(name: Name) -> u64
+    ensures { λ r. ⌜ r ≡ nameStart name ⌝ }
+{
+    match name {
+        Name::Good(at, _) => at as u64,
+        Name::Bad => 0,
+    }
+}
+
+// How long it is.
+pub fn name_length(name: Name) -> u64
+    ensures { λ r. ⌜ r ≡ nameLength name ⌝ }
+{
+    match name {
+        Name::Good(_, n) => n as u64,
+        Name::Bad => 0,
+    }
+}
+
 // The bytes of a name: that part of the file; of a bad one none.
 pub fn name_bytes(f: &[u8], name: Name) -> &[u8]
     ensures { λ r. ⌜ now r ≡ nameBytes (now (f .entry)) name ⌝ }
@@ -218,7 +240,7 @@ pub fn symbol_span(f: &[u8], h: Header, j: u32) -> Span
     let at = object::symbol_record_at(h, j);
     let long = le::u32_at(f, at) == 0;
     if long {
-        long_span(f, h, le::u32_at(f, at + 4))
+        long_span(f, h, le::u32_at(f, at + object::LONG_OFFSET_AT))
     } else {
         Span {
             at,

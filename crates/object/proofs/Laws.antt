@@ -4,37 +4,39 @@ use mathlib.Core.Bool.{Bool, true, false, _&&_}
 use mathlib.Core.List.{List, [], _∷_}
 use Prim.Native.Nat.{ℕ, _+_, _*_, _-_, _/_, _%_, _^_, _≤_, _<_}
 use native.Mathlib.Omega.{arith}
+use native.Mathlib.Nat.{add-zero}
 use mathlib.Core.Logic.{⊎-elim}
 use lib.Dec.{eqb}
-use lib.ListN.{getD}
+use lib.ListN.{getD, take, drop}
 use borrow.Author.Tests.{ne-eqb}
 use Rattle.util.specs.Pick.{pick, le-or-lt}
 use Rattle.util.specs.Align.{roundUp, align-exact, up-one, up-near}
-use Rattle.le.specs.Le.{get, part, splice, part-at, get-same, fill-none, fill-again, fill-end}
+use Rattle.le.specs.Le.{get, part, part-at, get-same}
 use Rattle.kinds.specs.Flags.{LNK-NRELOC-OVFL, alignOf}
 use Rattle.kinds.specs.declared.SymbolKind.{SymbolKind}
 use Rattle.kinds.specs.declared.Place.{Place}
 use Rattle.object.specs.declared.Header.{Header}
 use Rattle.object.specs.declared.Records.{Records}
+use Rattle.object.specs.declared.Relocation.{Relocation}
 use Rattle.object.specs.declared.Symbol.{Symbol}
-use Rattle.object.specs.Format.{symbolSize, RELOCATION-SIZE, HEADER-SIZE, headerOf, symbolRecordAt, stringTable, stringLength, rawSize, rawPointer, relocationPointer, relocationField, flags, auxiliaries}
-use Rattle.object.specs.Section.{OVERFLOW-COUNT, fileEnd, rangeLength, extended, relocationRecords, relocationCount, relocationStart, uninitialized}
+use Rattle.object.specs.Format.{SECTION-SIZE, symbolSize, RELOCATION-SIZE, HEADER-SIZE, MACHINE-AT, SECTIONS-AT, SYMBOL-POINTER-AT, SYMBOLS-AT, OPTIONAL-SIZE-AT, RELOCATION-SYMBOL-AT, RELOCATION-TYPE-AT, VALUE-AT, NUMBER-AT, TYPE-AT, CLASS-AT, AUXILIARIES-AT, headerOf, symbolRecordAt, stringTable, stringLength, rawSize, rawPointer, relocationPointer, relocationField, flags, auxiliaries}
+use Rattle.object.specs.Section.{OVERFLOW-COUNT, fileEnd, rangeLength, extended, relocationRecords, relocationCount, uninitialized}
 use Rattle.object.specs.Relocation.{relocationIn, recordsOf, recordAt}
-use Rattle.object.specs.Symbol.{symbolOf, kindOf, placeOf, listedOf, kind, symbolPlace, listedValue, leftAfter, auxiliariesLeft, primary, primaries, isOwn}
+use Rattle.object.specs.Symbol.{symbolIn, symbolOf, kindOf, placeOf, listedOf, kind, symbolPlace, listedValue, leftAfter, auxiliariesLeft}
 use Rattle.object.specs.SymbolLaws.{left-none, left-again, left-end}
 
 -- ---- the header
-pub header-is : (f : List ℕ) (m n o s c : ℕ) → m ≡ get 2 f 0 → n ≡ get 2 f 2 → o ≡ get 2 f 16 → s ≡ get 4 f 8 → c ≡ headerOf f .symbols
+pub header-is : (f : List ℕ) (m n o s c : ℕ) → m ≡ get 2 f MACHINE-AT → n ≡ get 2 f SECTIONS-AT → o ≡ get 2 f OPTIONAL-SIZE-AT → s ≡ get 4 f SYMBOL-POINTER-AT → c ≡ headerOf f .symbols
     → record { machine = m; sections = n; «section_table» = HEADER-SIZE + o; «symbol_table» = s; symbols = c } ≡ headerOf f
 unfolding headerOf
 header-is f m n o s c a b d e g = rw (a, b, d, e, g)
 
 module _ (f : List ℕ) where
-  pub count-none : (r : ℕ) → r ≡ get 4 f 8 → eqb r 0 ≡ true → 0 ≡ headerOf f .symbols
+  pub count-none : (r : ℕ) → r ≡ get 4 f SYMBOL-POINTER-AT → eqb r 0 ≡ true → 0 ≡ headerOf f .symbols
   unfolding headerOf pick
   count-none r e z = rw (← e, z)
 
-  pub count-some : (r n : ℕ) → r ≡ get 4 f 8 → eqb r 0 ≡ false → n ≡ get 4 f 12 → n ≡ headerOf f .symbols
+  pub count-some : (r n : ℕ) → r ≡ get 4 f SYMBOL-POINTER-AT → eqb r 0 ≡ false → n ≡ get 4 f SYMBOLS-AT → n ≡ headerOf f .symbols
   unfolding headerOf pick
   count-some r n e z q = rw (← e, z, q)
 
@@ -54,28 +56,35 @@ pub extended-is : (f : List ℕ) (h : Header) (i x n : ℕ) {r : Bool} → r ≡
 unfolding extended
 extended-is f h i x n e q p = rw (← q, ← p) e
 
--- ---- a symbol record from its part of the file
+-- ---- a record from its part of the file
 get-part : (f : List ℕ) (a n m k : ℕ) → k + m ≤ n → get m (part f a n) k ≡ get m f (a + k)
 get-part f a n m k l =
     get-same m (part f a n) f k (a + k) (λ i q. let e : a + (k + i) ≡ a + k + i = omega arith in rw e at (part-at f a n (k + i) (omega arith)))
 
-pub symbol-is : (f : List ℕ) (h : Header) (r : List ℕ) (j at v n t c x : ℕ) → r ≡ part f at (symbolSize h) → at ≡ symbolRecordAt h j → v ≡ get 4 r 8 → n ≡ get 2 r 12 → t ≡ get 2 r 14 → c ≡ getD r 16 0 → x ≡ getD r 17 0
-    → record { value = v; number = n; «symbol_type» = t; class = c; auxiliaries = x } ≡ symbolOf f h j
-symbol-is f h r j at v n t c x e a d g u w y =
-    let p : r ≡ part f (symbolRecordAt h j) (symbolSize h) = rw a at e in
-    rw (
-      d,
-      g,
-      u,
-      w,
-      y,
-      p,
-      get-part f (symbolRecordAt h j) (symbolSize h) 4 8 (omega arith),
-      get-part f (symbolRecordAt h j) (symbolSize h) 2 12 (omega arith),
-      get-part f (symbolRecordAt h j) (symbolSize h) 2 14 (omega arith),
-      part-at f (symbolRecordAt h j) (symbolSize h) 16 (omega arith),
-      part-at f (symbolRecordAt h j) (symbolSize h) 17 (omega arith),
-    )
+-- a symbol record
+pub fields-are : (l : List ℕ) (v n t c x : ℕ) → v ≡ get 4 l VALUE-AT → n ≡ get 2 l NUMBER-AT → t ≡ get 2 l TYPE-AT → c ≡ getD l CLASS-AT 0 → x ≡ getD l AUXILIARIES-AT 0
+    → record { value = v; number = n; «symbol_type» = t; class = c; auxiliaries = x } ≡ symbolIn l 0
+fields-are l v n t c x d g u w y = rw (d, g, u, w, y)
+
+module _ (f : List ℕ) (h : Header) (at : ℕ) (s : Symbol) where
+  symbol-in : s ≡ symbolIn (part f at (symbolSize h)) 0 → s ≡ symbolIn f at
+  symbol-in e =
+      rw (
+        e,
+        get-part f at (symbolSize h) 4 VALUE-AT (omega arith),
+        get-part f at (symbolSize h) 2 NUMBER-AT (omega arith),
+        get-part f at (symbolSize h) 2 TYPE-AT (omega arith),
+        part-at f at (symbolSize h) CLASS-AT (omega arith),
+        part-at f at (symbolSize h) AUXILIARIES-AT (omega arith),
+      )
+
+  pub symbol-part : (j : ℕ) (r : List ℕ) → s ≡ symbolIn r 0 → r ≡ part f at (symbolSize h) → at ≡ symbolRecordAt h j → s ≡ symbolOf f h j
+  symbol-part j r e p a = rw (← a) (symbol-in (rw p at e))
+
+  -- of a known length
+  pub symbol-whole : (j : ℕ) → s ≡ symbolIn (take (at + symbolSize h - at) (drop at f)) 0 → at ≡ symbolRecordAt h j → s ≡ symbolOf f h j
+  unfolding part
+  symbol-whole j e a = let z : at + symbolSize h - at ≡ symbolSize h = omega arith in rw (← a) (symbol-in (rw z at e))
 
 module _ (f : List ℕ) (h : Header) (j : ℕ) (s : Symbol) (is : s ≡ symbolOf f h j) where
   pub kind-is : {r : SymbolKind} → r ≡ kindOf s → r ≡ kind f h j
@@ -87,7 +96,7 @@ module _ (f : List ℕ) (h : Header) (j : ℕ) (s : Symbol) (is : s ≡ symbolOf
   pub value-is : {r : ℕ} → r ≡ listedOf s → r ≡ listedValue f h j
   value-is p = rw is at p
 
-pub ruleset symbol-ways = (symbol-is, kind-is, place-is, value-is)
+pub ruleset symbol-ways = (fields-are, symbol-part, symbol-whole, kind-is, place-is, value-is)
 
 pub left-own : (left a : ℕ) → left ≡ 0 → a ≡ pick (eqb left 0) a (left - 1)
 unfolding pick
@@ -107,27 +116,9 @@ module _ (f : List ℕ) (h : Header) (j left : ℕ) where
   unfolding leftAfter pick
   after-less n = rw (ne-eqb left 0 n)
 
--- the byte of record j, and the bytes with j records done
-pub mark-own : (left : ℕ) → left ≡ 0 → _≡_ {A = ℕ} 1 (pick (eqb left 0) 1 0)
-unfolding pick
-mark-own left z = rw z
+pub ruleset auxiliary-ways = (left-own, left-less, after-own, after-less)
 
-pub mark-less : (left : ℕ) → (left ≡ 0 → ⊥) → _≡_ {A = ℕ} 0 (pick (eqb left 0) 1 0)
-unfolding pick
-mark-less left n = rw (ne-eqb left 0 n)
-
-pub own-again : (f : List ℕ) (h : Header) (l b b′ : List ℕ) (j left x : ℕ) → b ≡ splice l 0 (primaries f h j) → left ≡ auxiliariesLeft f h j → x ≡ pick (eqb left 0) 1 0
-    → b′ ≡ splice b j (x ∷ []) → b′ ≡ splice l 0 (primaries f h (j + 1))
-unfolding primary
-own-again f h l b b′ j left x e q m d = fill-again (λ k. pick (primary f h k) 1 0) l b b′ j x e (rw (← q) m) d
-
--- a record is a symbol's own by its byte
-pub own-is : (own : List ℕ) (j b : ℕ) → b ≡ getD own j 0 → eqb b 1 ≡ isOwn own j
-own-is own j b q = rw q
-
-pub ruleset auxiliary-ways = (left-own, left-less, after-own, after-less, mark-own, mark-less, own-is)
-
-pub ruleset auxiliary-loop = (left-none, left-again, left-end, fill-none, own-again, fill-end)
+pub ruleset auxiliary-loop = (left-none, left-again, left-end)
 
 -- the size in the image is small
 pub range-small : (size n r : ℕ) → size < 2 ^ 32 → n < 2 ^ 32 → r ≡ roundUp size n % 2 ^ 64 → r < 2 ^ 33
@@ -173,19 +164,18 @@ module _ (f : List ℕ) (h : Header) (i : ℕ) where
     unfolding relocationCount pick
     count-plain n a t = rw (← is, t) a
 
-    pub start-extended : (p : ℕ) → e ≡ true → p ≡ relocationPointer f h i → p + RELOCATION-SIZE ≡ relocationStart f h i
-    unfolding relocationStart pick
-    start-extended p t a = rw (← is, t, a)
-
-    pub start-plain : (p : ℕ) → e ≡ false → p ≡ relocationPointer f h i → p ≡ relocationStart f h i
-    unfolding relocationStart pick
-    start-plain p t a = rw (← is, t) a
-
-pub ruleset section-ways = (range-fits, range-small, end-none, end-some, records-extended, records-plain, count-extended, count-extended-none, count-plain, start-extended, start-plain)
+pub ruleset section-ways = (range-fits, range-small, end-none, end-some, records-extended, records-plain, count-extended, count-extended-none, count-plain)
 
 -- a number read at a place that is known by an equation
 pub moved : (l : List ℕ) (n a b k : ℕ) {r : ℕ} → r ≡ get n l (a + k) → a ≡ b → r ≡ get n l (b + k)
 moved l n a b k p q = rw (← q) p
+
+-- a field of a section record, from the record's part of the file, of a known length
+pub section-whole : (f : List ℕ) (n a b k : ℕ) {r : ℕ} → r ≡ get n (take (a + SECTION-SIZE - a) (drop a f)) k → a ≡ b → k + n ≤ SECTION-SIZE → r ≡ get n f (b + k)
+unfolding part
+section-whole f n a b k e q l =
+    let z : a + SECTION-SIZE - a ≡ SECTION-SIZE = omega arith in
+    rw (← q) ((rw z at e) ∙ get-part f a SECTION-SIZE n k l)
 
 pub moved0 : (l : List ℕ) (n a b : ℕ) {r : ℕ} → r ≡ get n l a → a ≡ b → r ≡ get n l b
 moved0 l n a b p q = rw (← q) p
@@ -208,10 +198,24 @@ module _ (f : List ℕ) (h : Header) (i : ℕ) where
   unfolding recordsOf
   records-are p a n e d q = rw (e, d, q)
 
-pub relocation-read : (f : List ℕ) (r : Records) (k a s t : ℕ) → a ≡ get 4 f (r .pointer + RELOCATION-SIZE * (r .first + k))
-    → s ≡ get 4 f (r .pointer + RELOCATION-SIZE * (r .first + k) + 4) → t ≡ get 2 f (r .pointer + RELOCATION-SIZE * (r .first + k) + 8)
-    → record { address = a; symbol = s; typ = t } ≡ relocationIn f (recordAt r k)
-unfolding relocationIn recordAt
-relocation-read f r k a s t e d q = rw (e, d, q)
+module _ (f : List ℕ) (at a s t : ℕ) where
+  pub relocation-part : a ≡ get 4 f at → s ≡ get 4 f (at + RELOCATION-SYMBOL-AT) → t ≡ get 2 f (at + RELOCATION-TYPE-AT) → record { address = a; symbol = s; typ = t } ≡ relocationIn f at
+  unfolding relocationIn
+  relocation-part e d q = rw (e, d, q)
 
-pub ruleset relocations = (first-one, first-zero, records-are, relocation-read)
+  -- from its part of the file, of a known length
+  pub relocation-whole : a ≡ get 4 (take (at + RELOCATION-SIZE - at) (drop at f)) 0 → s ≡ get 4 (take (at + RELOCATION-SIZE - at) (drop at f)) RELOCATION-SYMBOL-AT
+      → t ≡ get 2 (take (at + RELOCATION-SIZE - at) (drop at f)) RELOCATION-TYPE-AT → record { address = a; symbol = s; typ = t } ≡ relocationIn f at
+  unfolding part
+  relocation-whole e d q =
+      let z : at + RELOCATION-SIZE - at ≡ RELOCATION-SIZE = omega arith in
+      relocation-part
+      ((rw z at e) ∙ (rw add-zero at (get-part f at RELOCATION-SIZE 4 0 (omega arith))))
+      ((rw z at d) ∙ get-part f at RELOCATION-SIZE 4 RELOCATION-SYMBOL-AT (omega arith))
+      ((rw z at q) ∙ get-part f at RELOCATION-SIZE 2 RELOCATION-TYPE-AT (omega arith))
+
+pub relocation-read : (f : List ℕ) (r : Records) (k : ℕ) (x : Relocation) → x ≡ relocationIn f (r .pointer + RELOCATION-SIZE * (r .first + k)) → x ≡ relocationIn f (recordAt r k)
+unfolding recordAt
+relocation-read f r k x e = e
+
+pub ruleset relocations = (first-one, first-zero, records-are, relocation-part, relocation-whole, relocation-read)

@@ -28,20 +28,100 @@ symbolSize h = 18
 abbrev pub NAME-SIZE : ℕ
 NAME-SIZE = 8
 
+-- in the name field of a symbol whose first four bytes are zero: where the offset of its name in the string table stands
+abbrev pub LONG-OFFSET-AT : ℕ
+LONG-OFFSET-AT = 4
+
 -- the bytes of the string table's own length, behind which strings stand
 abbrev pub LENGTH-SIZE : ℕ
 LENGTH-SIZE = 4
+
+-- ---- where each field stands, in bytes from the start of its record, by its name in PE/COFF: of the file header
+-- Machine
+abbrev pub MACHINE-AT : ℕ
+MACHINE-AT = 0
+
+-- NumberOfSections
+abbrev pub SECTIONS-AT : ℕ
+SECTIONS-AT = 2
+
+-- PointerToSymbolTable
+abbrev pub SYMBOL-POINTER-AT : ℕ
+SYMBOL-POINTER-AT = 8
+
+-- NumberOfSymbols
+abbrev pub SYMBOLS-AT : ℕ
+SYMBOLS-AT = 12
+
+-- SizeOfOptionalHeader
+abbrev pub OPTIONAL-SIZE-AT : ℕ
+OPTIONAL-SIZE-AT = 16
+
+-- ---- of a section record, whose name stands first
+-- VirtualAddress
+abbrev pub ADDRESS-AT : ℕ
+ADDRESS-AT = 12
+
+-- SizeOfRawData
+abbrev pub RAW-SIZE-AT : ℕ
+RAW-SIZE-AT = 16
+
+-- PointerToRawData
+abbrev pub RAW-POINTER-AT : ℕ
+RAW-POINTER-AT = 20
+
+-- PointerToRelocations
+abbrev pub RELOCATION-POINTER-AT : ℕ
+RELOCATION-POINTER-AT = 24
+
+-- NumberOfRelocations
+abbrev pub RELOCATIONS-AT : ℕ
+RELOCATIONS-AT = 32
+
+-- Characteristics
+abbrev pub FLAGS-AT : ℕ
+FLAGS-AT = 36
+
+-- ---- of a symbol record, whose name stands first
+-- Value
+abbrev pub VALUE-AT : ℕ
+VALUE-AT = 8
+
+-- SectionNumber
+abbrev pub NUMBER-AT : ℕ
+NUMBER-AT = 12
+
+-- Type
+abbrev pub TYPE-AT : ℕ
+TYPE-AT = 14
+
+-- StorageClass
+abbrev pub CLASS-AT : ℕ
+CLASS-AT = 16
+
+-- NumberOfAuxSymbols
+abbrev pub AUXILIARIES-AT : ℕ
+AUXILIARIES-AT = 17
+
+-- ---- of a relocation record
+-- SymbolTableIndex
+abbrev pub RELOCATION-SYMBOL-AT : ℕ
+RELOCATION-SYMBOL-AT = 4
+
+-- Type; VirtualAddress stands first
+abbrev pub RELOCATION-TYPE-AT : ℕ
+RELOCATION-TYPE-AT = 8
 
 -- ---- the file header: machine, section count, symbol pointer and count; the optional header's size says where the section table starts.
 -- A symbol pointer of zero means that there are no symbols, whatever the count says (01, "Records").
 unfoldable pub headerOf : List ℕ → Header
 headerOf f =
     record {
-      machine = get 2 f 0;
-      sections = get 2 f 2;
-      «section_table» = HEADER-SIZE + get 2 f 16;
-      «symbol_table» = get 4 f 8;
-      symbols = pick (eqb (get 4 f 8) 0) 0 (get 4 f 12);
+      machine = get 2 f MACHINE-AT;
+      sections = get 2 f SECTIONS-AT;
+      «section_table» = HEADER-SIZE + get 2 f OPTIONAL-SIZE-AT;
+      «symbol_table» = get 4 f SYMBOL-POINTER-AT;
+      symbols = pick (eqb (get 4 f SYMBOL-POINTER-AT) 0) 0 (get 4 f SYMBOLS-AT);
     }
 
 -- ---- where records start
@@ -65,46 +145,46 @@ stringLength f h = pick (eqb (h .«symbol_table») 0) 0 (get 4 f (stringTable h)
 module _ (f : List ℕ) (h : Header) (i : ℕ) where
   -- VirtualAddress: 0 in a loaded section (refusal 5)
   abbrev pub addressField : ℕ
-  addressField = get 4 f (sectionHeaderAt h i + 12)
+  addressField = get 4 f (sectionHeaderAt h i + ADDRESS-AT)
 
   -- SizeOfRawData: of an uninitialised section too the bytes that it takes
   abbrev pub rawSize : ℕ
-  rawSize = get 4 f (sectionHeaderAt h i + 16)
+  rawSize = get 4 f (sectionHeaderAt h i + RAW-SIZE-AT)
 
   -- PointerToRawData: where its bytes start in the file
   abbrev pub rawPointer : ℕ
-  rawPointer = get 4 f (sectionHeaderAt h i + 20)
+  rawPointer = get 4 f (sectionHeaderAt h i + RAW-POINTER-AT)
 
   -- PointerToRelocations: where its relocation records start in the file
   abbrev pub relocationPointer : ℕ
-  relocationPointer = get 4 f (sectionHeaderAt h i + 24)
+  relocationPointer = get 4 f (sectionHeaderAt h i + RELOCATION-POINTER-AT)
 
   -- NumberOfRelocations: the count, or with the overflow flag 65,535
   abbrev pub relocationField : ℕ
-  relocationField = get 2 f (sectionHeaderAt h i + 32)
+  relocationField = get 2 f (sectionHeaderAt h i + RELOCATIONS-AT)
 
   -- Characteristics: what `kinds: Flags` tells apart
   abbrev pub flags : ℕ
-  flags = get 4 f (sectionHeaderAt h i + 36)
+  flags = get 4 f (sectionHeaderAt h i + FLAGS-AT)
 
 -- ---- fields of symbol record j
 module _ (f : List ℕ) (h : Header) (j : ℕ) where
   -- Value: of a symbol in a section its offset there
   abbrev pub symbolValue : ℕ
-  symbolValue = get 4 f (symbolRecordAt h j + 8)
+  symbolValue = get 4 f (symbolRecordAt h j + VALUE-AT)
 
   -- as it stands in the record: two's complement of 16 bits
   abbrev pub sectionField : ℕ
-  sectionField = get 2 f (symbolRecordAt h j + 12)
+  sectionField = get 2 f (symbolRecordAt h j + NUMBER-AT)
 
   -- Type: bits 4 and 5 tell a function
   abbrev pub symbolType : ℕ
-  symbolType = get 2 f (symbolRecordAt h j + 14)
+  symbolType = get 2 f (symbolRecordAt h j + TYPE-AT)
 
   -- StorageClass: kind, place and listed value go by it
   abbrev pub symbolClass : ℕ
-  symbolClass = getD f (symbolRecordAt h j + 16) 0
+  symbolClass = getD f (symbolRecordAt h j + CLASS-AT) 0
 
   -- NumberOfAuxSymbols: how many auxiliary records follow it
   abbrev pub auxiliaries : ℕ
-  auxiliaries = getD f (symbolRecordAt h j + 17) 0
+  auxiliaries = getD f (symbolRecordAt h j + AUXILIARIES-AT) 0

@@ -9,12 +9,12 @@ use Rattle.le.specs.Le.{get}
 use Rattle.object.specs.declared.Header.{Header}
 use Rattle.object.specs.declared.Records.{Records}
 use Rattle.object.specs.declared.Relocation.{Relocation}
-use Rattle.object.specs.Format.{RELOCATION-SIZE, relocationPointer}
+use Rattle.object.specs.Format.{RELOCATION-SIZE, RELOCATION-SYMBOL-AT, RELOCATION-TYPE-AT, relocationPointer}
 use Rattle.object.specs.Section.{extended, relocationCount, relocationStart}
 
 -- the record that starts at a place of the file
 unfoldable pub relocationIn : List ℕ → ℕ → Relocation
-relocationIn f at = record { address = get 4 f at; symbol = get 4 f (at + 4); typ = get 2 f (at + 8) }
+relocationIn f at = record { address = get 4 f at; symbol = get 4 f (at + RELOCATION-SYMBOL-AT); typ = get 2 f (at + RELOCATION-TYPE-AT) }
 
 -- ---- record k of section i
 module _ (f : List ℕ) (h : Header) (i k : ℕ) where
@@ -32,11 +32,11 @@ module _ (f : List ℕ) (h : Header) (i k : ℕ) where
 
   -- SymbolTableIndex: the number of a symbol record, auxiliary ones counted
   abbrev pub relocationSymbol : ℕ
-  relocationSymbol = get 4 f (relocationAt + 4)
+  relocationSymbol = get 4 f (relocationAt + RELOCATION-SYMBOL-AT)
 
   -- Type: a number of the machine's own table
   abbrev pub relocationType : ℕ
-  relocationType = get 2 f (relocationAt + 8)
+  relocationType = get 2 f (relocationAt + RELOCATION-TYPE-AT)
 
 -- ---- what is found once for a section: its relocation pointer, which record is its relocation 0, and how many there are
 unfoldable pub recordsOf : List ℕ → Header → ℕ → Records

@@ -1,7 +1,7 @@
 -- What a symbol record says (01, "Records"; PE/COFF, "COFF Symbol Table").
 use mathlib.Core.Bool.{Bool, _&&_, _||_, not}
 use mathlib.Core.List.{List}
-use Prim.Native.Nat.{ℕ, zero, suc, _-_}
+use Prim.Native.Nat.{ℕ, zero, suc, _+_, _-_}
 use lib.IntN.{ℤ}
 use lib.Dec.{eqb, ltb}
 use lib.ListN.{getD}
@@ -9,12 +9,13 @@ use mir.Syntax.{w16}
 use mir.Val.{toZ}
 use Rattle.util.specs.Pick.{pick}
 use Rattle.util.specs.Prefix.{allTo, listTo}
+use Rattle.le.specs.Le.{get}
 use Rattle.kinds.specs.declared.SymbolKind.{SymbolKind}
 use Rattle.kinds.specs.declared.Place.{Place}
 use Rattle.kinds.specs.Symbol.{kindBy, placeBy, listedBy}
 use Rattle.object.specs.declared.Header.{Header}
 use Rattle.object.specs.declared.Symbol.{Symbol}
-use Rattle.object.specs.Format.{symbolValue, sectionField, symbolType, symbolClass, auxiliaries}
+use Rattle.object.specs.Format.{VALUE-AT, NUMBER-AT, TYPE-AT, CLASS-AT, AUXILIARIES-AT, symbolRecordAt, symbolValue, sectionField, symbolType, symbolClass, auxiliaries}
 
 -- ---- by the fields behind its name
 -- text, data, section, file, label or unknown
@@ -29,18 +30,22 @@ placeOf s = placeBy (toZ w16 (s .number)) (s .class) (s .value)
 abbrev pub listedOf : Symbol → ℕ
 listedOf s = listedBy (s .class) (s .value)
 
+-- those fields of the record that starts at a place of the file
+abbrev pub symbolIn : List ℕ → ℕ → Symbol
+symbolIn f at =
+    record {
+      value = get 4 f (at + VALUE-AT);
+      number = get 2 f (at + NUMBER-AT);
+      «symbol_type» = get 2 f (at + TYPE-AT);
+      class = getD f (at + CLASS-AT) 0;
+      auxiliaries = getD f (at + AUXILIARIES-AT) 0;
+    }
+
 -- ---- of symbol j
 module _ (f : List ℕ) (h : Header) (j : ℕ) where
-  -- those fields
+  -- the fields of its record
   abbrev pub symbolOf : Symbol
-  symbolOf =
-      record {
-        value = symbolValue f h j;
-        number = sectionField f h j;
-        «symbol_type» = symbolType f h j;
-        class = symbolClass f h j;
-        auxiliaries = auxiliaries f h j;
-      }
+  symbolOf = symbolIn f (symbolRecordAt h j)
 
   -- its section number with its sign: from 1, or 0, -1, -2
   abbrev pub sectionNumber : ℤ
@@ -75,14 +80,6 @@ primary f h j = eqb (auxiliariesLeft f h j) 0
 -- number j is a symbol's: its own record; past the records there is none
 unfoldable pub isSymbol : List ℕ → Header → ℕ → Bool
 isSymbol f h j = ltb j (h .symbols) && primary f h j
-
--- what is kept of it: a byte a record, 1 for a symbol's own, 0 for an auxiliary one
-abbrev pub primaries : List ℕ → Header → ℕ → List ℕ
-primaries f h n = listTo (λ j. pick (primary f h j) 1 0) n
-
--- number j is a symbol's, by those bytes (`own-kept`)
-abbrev pub isOwn : List ℕ → ℕ → Bool
-isOwn own j = eqb (getD own j 0) 1
 
 -- a test of every symbol, by its own record
 unfoldable pub okAt : (List ℕ → Header → ℕ → Bool) → List ℕ → Header → ℕ → Bool

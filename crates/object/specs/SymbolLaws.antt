@@ -1,6 +1,6 @@
 -- Symbols' own records and the runs of auxiliary records behind them share out the numbers: each number is one or the other, and no two
 -- runs meet (01, "Records").
-use mathlib.Core.Path.{_≡_, refl, fun-ext}
+use mathlib.Core.Path.{_≡_, refl}
 use mathlib.Core.Bool.{Bool, true, false}
 use mathlib.Core.List.{List}
 use mathlib.Core.Logic.{⊎-elim}
@@ -11,11 +11,10 @@ use lib.Dec.{eqb}
 use lib.ListN.{getD}
 use borrow.Author.Tests.{eq-eqb, ne-eqb, eqb-true, eqb-false, lt-ltb, le-ltb}
 use Rattle.util.specs.Pick.{pick, yes-no, le-or-lt}
-use Rattle.util.specs.Prefix.{list-at, list-past}
 use Rattle.object.specs.declared.Header.{Header}
 use Rattle.object.specs.declared.Symbol.{Symbol}
 use Rattle.object.specs.Format.{auxiliaries}
-use Rattle.object.specs.Symbol.{symbolOf, leftAfter, auxiliariesLeft, primary, primaries, isOwn, isSymbol, okAt}
+use Rattle.object.specs.Symbol.{symbolOf, leftAfter, auxiliariesLeft, primary, okAt}
 
 -- ---- as a loop counts what is left: at the first record, one record further, and at the end
 pub left-none : (f : List ℕ) (h : Header) → 0 ≡ auxiliariesLeft f h 0
@@ -33,11 +32,6 @@ left-past f h j left r s e p q = left-again f h j left r e (rw q at p)
 
 pub left-end : (f : List ℕ) (h : Header) (j n m left : ℕ) → left ≡ auxiliariesLeft f h j → j ≤ n → n ≤ j → n ≡ m → left ≡ auxiliariesLeft f h m
 left-end f h j n m left e a b q = let z : j ≡ n = omega arith in cc
-
-byte-is : (b : Bool) → eqb (pick b 1 0) 1 ≡ b
-unfolding pick
-byte-is true = refl
-byte-is false = refl
 
 module _ (f : List ℕ) (h : Header) where
   -- ---- what is left, one record further
@@ -133,40 +127,6 @@ module _ (f : List ℕ) (h : Header) where
       absurd (let z : true ≡ false = cc in let y : _≡_ {A = ℕ} 0 1 = cc in omega arith))
       (λ r. r)
       (le-or-lt k (j + auxiliaries f h j))
-
-  -- ---- the bytes of primaries
-  -- its byte j says whether record j is a symbol's own
-  primaries-at : (n j : ℕ) → j < n → getD (primaries f h n) j 0 ≡ pick (primary f h j) 1 0
-  primaries-at n j l = list-at (λ k. pick (primary f h k) 1 0) 0 n j l
-
-  -- a symbol's own record has a 1
-  pub primaries-one : (n j : ℕ) → j < n → primary f h j ≡ true → getD (primaries f h n) j 0 ≡ 1
-  unfolding pick
-  primaries-one n j l p = rw (primaries-at n j l, p)
-
-  -- and a 1 stands for nothing else
-  pub one-primaries : (n j : ℕ) → j < n → getD (primaries f h n) j 0 ≡ 1 → primary f h j ≡ true
-  unfolding pick
-  one-primaries n j l e =
-      ⊎-elim (λ p. p)
-      (λ (p : primary f h j ≡ false).
-      let z : getD (primaries f h n) j 0 ≡ 0 = rw (primaries-at n j l, p) in
-      absurd (omega arith))
-      (yes-no (primary f h j))
-
-  -- so the bytes say which numbers are symbols'
-  own-in : (n j : ℕ) → j < n → isOwn (primaries f h n) j ≡ primary f h j
-  unfolding pick
-  own-in n j l = rw (primaries-at n j l) (byte-is (primary f h j))
-
-  pub own-kept : isOwn (primaries f h (h .symbols)) ≡ isSymbol f h
-  unfolding isSymbol
-  own-kept =
-      fun-ext
-      (λ j.
-      ⊎-elim (λ q. rw (le-ltb j (h .symbols) q, list-past {A = ℕ} (λ k. pick (primary f h k) 1 0) 0 (h .symbols) j q))
-      (λ q. rw (lt-ltb j (h .symbols) q) (own-in (h .symbols) j q))
-      (le-or-lt (h .symbols) j))
 
 -- a test of a symbol by its own record, where `left` auxiliary ones stand from j on
 module _ (ok : List ℕ → Header → ℕ → Bool) (f : List ℕ) (h : Header) (j left : ℕ) (is : left ≡ auxiliariesLeft f h j) where

@@ -7,6 +7,7 @@ mod symbol_records;
 
 pub use format::HEADER_SIZE;
 pub use format::LENGTH_SIZE;
+pub use format::LONG_OFFSET_AT;
 pub use format::NAME_SIZE;
 pub use format::RELOCATION_SIZE;
 pub use format::read_header;
@@ -16,9 +17,6 @@ pub use format::string_table;
 pub use format::symbol_record_at;
 pub use relocations::read_relocation;
 pub use relocations::records_of;
-pub use relocations::relocation_address;
-pub use relocations::relocation_symbol;
-pub use relocations::relocation_type;
 pub use sections::address_field;
 pub use sections::file_end;
 pub use sections::file_start;
@@ -32,11 +30,8 @@ pub use sections::raw_size;
 pub use sections::relocation_count;
 pub use sections::relocation_pointer;
 pub use sections::relocation_records;
-pub use sections::relocation_start;
 pub use symbol_records::auxiliaries;
 pub use symbol_records::auxiliaries_past;
-pub use symbol_records::fill_primaries;
-pub use symbol_records::is_own;
 pub use symbol_records::kind_of;
 pub use symbol_records::left_after;
 pub use symbol_records::left_by;
@@ -44,10 +39,8 @@ pub use symbol_records::listed_of;
 pub use symbol_records::listed_value;
 pub use symbol_records::place_of;
 pub use symbol_records::read_symbol;
-pub use symbol_records::symbol_class;
 pub use symbol_records::symbol_kind;
 pub use symbol_records::symbol_place;
-pub use symbol_records::symbol_value;
 
 // What the file header says: where the tables are, and how many records they have.
 pub struct Header {

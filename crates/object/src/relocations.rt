@@ -3,44 +3,18 @@ use crate::Header;
 use crate::Records;
 use crate::Relocation;
 use crate::format::RELOCATION_SIZE;
+use crate::format::RELOCATION_SYMBOL_AT;
+use crate::format::RELOCATION_TYPE_AT;
 use crate::sections::is_extended;
 use crate::sections::relocation_count;
 use crate::sections::relocation_pointer;
-use crate::sections::relocation_start;
 ghost use mathlib.Core.Path.{_≡_};
+ghost use Prim.Native.Nat.{_+_, _^_, _≤_, _<_};
+ghost use lib.ListN.{length};
 ghost use Rattle.util.specs.Pick.{pick};
+ghost use Rattle.object.specs.Format.{RELOCATION-SIZE};
 ghost use Rattle.object.specs.Section.{extended};
-ghost use Prim.Native.Nat.{_+_, _^_, _<_};
-ghost use Rattle.object.specs.Relocation.{relocationIn, relocationAt, relocationAddress, relocationSymbol, relocationType, recordsOf, recordAt};
-
-// Where record k of section i starts.
-fn relocation_at(f: &[u8], h: Header, i: u32, k: u32) -> usize
-    ensures { λ r. ⌜ r ≡ relocationAt (now (f .entry)) h i k ⌝ }
-    ensures { λ r. ⌜ r < 2 ^ 37 ⌝ }
-{
-    relocation_start(f, h, i) + RELOCATION_SIZE * (k as usize)
-}
-
-// Its address field.
-pub fn relocation_address(f: &[u8], h: Header, i: u32, k: u32) -> u32
-    ensures { λ r. ⌜ r ≡ relocationAddress (now (f .entry)) h i k ⌝ }
-{
-    le::u32_at(f, relocation_at(f, h, i, k))
-}
-
-// Its symbol's number.
-pub fn relocation_symbol(f: &[u8], h: Header, i: u32, k: u32) -> u32
-    ensures { λ r. ⌜ r ≡ relocationSymbol (now (f .entry)) h i k ⌝ }
-{
-    le::u32_at(f, relocation_at(f, h, i, k) + 4)
-}
-
-// Its type.
-pub fn relocation_type(f: &[u8], h: Header, i: u32, k: u32) -> u16
-    ensures { λ r. ⌜ r ≡ relocationType (now (f .entry)) h i k ⌝ }
-{
-    le::u16_at(f, relocation_at(f, h, i, k) + 8)
-}
+ghost use Rattle.object.specs.Relocation.{relocationIn, recordsOf, recordAt};
 
 // Which record is relocation 0: the one behind the count's, if there is such a one.
 fn first_record(f: &[u8], h: Header, i: u32) -> u32
@@ -60,14 +34,40 @@ pub fn records_of(f: &[u8], h: Header, i: u32) -> Records
     }
 }
 
-// Relocation k of them, read whole.
+// The record at a place where the file has all of it: of a part of a known length no field needs a test.
+fn read_whole(f: &[u8], at: usize) -> Relocation
+    requires { ⌜ at + RELOCATION-SIZE ≤ length (now f) ⌝ }
+    ensures { λ r. ⌜ r ≡ relocationIn (now (f .entry)) at ⌝ }
+{
+    let to = at + RELOCATION_SIZE;
+    let record = &f[at..to];
+    Relocation {
+        address: le::u32_at(record, 0),
+        symbol: le::u32_at(record, RELOCATION_SYMBOL_AT),
+        typ: le::u16_at(record, RELOCATION_TYPE_AT),
+    }
+}
+
+// The record at a place where the file may end before it does.
+fn read_part(f: &[u8], at: usize) -> Relocation
+    requires { ⌜ at < 2 ^ 38 ⌝ }
+    ensures { λ r. ⌜ r ≡ relocationIn (now (f .entry)) at ⌝ }
+{
+    Relocation {
+        address: le::u32_at(f, at),
+        symbol: le::u32_at(f, at + RELOCATION_SYMBOL_AT),
+        typ: le::u16_at(f, at + RELOCATION_TYPE_AT),
+    }
+}
+
+// Relocation k of them, all its fields at once.
 pub fn read_relocation(f: &[u8], records: Records, k: u32) -> Relocation
     ensures { λ r. ⌜ r ≡ relocationIn (now (f .entry)) (recordAt records k) ⌝ }
 {
     let at = records.pointer as usize + RELOCATION_SIZE * (records.first as usize + k as usize);
-    Relocation {
-        address: le::u32_at(f, at),
-        symbol: le::u32_at(f, at + 4),
-        typ: le::u16_at(f, at + 8),
+    if at + RELOCATION_SIZE <= f.len() {
+        read_whole(f, at)
+    } else {
+        read_part(f, at)
     }
 }

@@ -1,6 +1,11 @@
 // Section records; i counts from 0.
 use crate::Header;
-use crate::format::RELOCATION_SIZE;
+use crate::format::ADDRESS_AT;
+use crate::format::FLAGS_AT;
+use crate::format::RAW_POINTER_AT;
+use crate::format::RAW_SIZE_AT;
+use crate::format::RELOCATION_POINTER_AT;
+use crate::format::RELOCATIONS_AT;
 use crate::format::section_u16;
 use crate::format::section_u32;
 ghost use mathlib.Core.Path.{_≡_};
@@ -16,7 +21,6 @@ ghost use Rattle.object.specs.Section.{
   extended,
   relocationRecords,
   relocationCount,
-  relocationStart,
 };
 
 // What the count field holds where the count does not fit it.
@@ -26,40 +30,40 @@ const OVERFLOW_COUNT: u16 = 65535;
 pub fn address_field(f: &[u8], h: Header, i: u32) -> u32
     ensures { λ r. ⌜ r ≡ addressField (now (f .entry)) h i ⌝ }
 {
-    section_u32(f, h, i, 12)
+    section_u32(f, h, i, ADDRESS_AT)
 }
 
 // The size of its bytes in the file.
 pub fn raw_size(f: &[u8], h: Header, i: u32) -> u32
     ensures { λ r. ⌜ r ≡ rawSize (now (f .entry)) h i ⌝ }
 {
-    section_u32(f, h, i, 16)
+    section_u32(f, h, i, RAW_SIZE_AT)
 }
 
 // Where they start.
 pub fn raw_pointer(f: &[u8], h: Header, i: u32) -> u32
     ensures { λ r. ⌜ r ≡ rawPointer (now (f .entry)) h i ⌝ }
 {
-    section_u32(f, h, i, 20)
+    section_u32(f, h, i, RAW_POINTER_AT)
 }
 
 // Where its relocation records start.
 pub fn relocation_pointer(f: &[u8], h: Header, i: u32) -> u32
     ensures { λ r. ⌜ r ≡ relocationPointer (now (f .entry)) h i ⌝ }
 {
-    section_u32(f, h, i, 24)
+    section_u32(f, h, i, RELOCATION_POINTER_AT)
 }
 
 fn relocation_field(f: &[u8], h: Header, i: u32) -> u16
     ensures { λ r. ⌜ r ≡ relocationField (now (f .entry)) h i ⌝ }
 {
-    section_u16(f, h, i, 32)
+    section_u16(f, h, i, RELOCATIONS_AT)
 }
 
 fn section_flags(f: &[u8], h: Header, i: u32) -> u32
     ensures { λ r. ⌜ r ≡ flags (now (f .entry)) h i ⌝ }
 {
-    section_u32(f, h, i, 36)
+    section_u32(f, h, i, FLAGS_AT)
 }
 
 // Neither removed nor discardable.
@@ -144,18 +148,5 @@ pub fn relocation_count(f: &[u8], h: Header, i: u32) -> u32
         if n == 0 { 0 } else { n - 1 }
     } else {
         n
-    }
-}
-
-// Where relocation 0 starts.
-pub fn relocation_start(f: &[u8], h: Header, i: u32) -> usize
-    ensures { λ r. ⌜ r ≡ relocationStart (now (f .entry)) h i ⌝ }
-    ensures { λ r. ⌜ r < 2 ^ 33 ⌝ }
-{
-    let start = relocation_pointer(f, h, i) as usize;
-    if is_extended(f, h, i) {
-        start + RELOCATION_SIZE
-    } else {
-        start
     }
 }

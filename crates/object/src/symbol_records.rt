@@ -1,52 +1,52 @@
 // Symbol records; j counts from 0, auxiliary records included.
 use crate::Header;
 use crate::Symbol;
+use crate::format::AUXILIARIES_AT;
+use crate::format::CLASS_AT;
+use crate::format::NUMBER_AT;
 use crate::format::SYMBOL_SIZE;
+use crate::format::TYPE_AT;
+use crate::format::VALUE_AT;
 use crate::format::symbol_record_at;
-use crate::format::symbol_u8;
-use crate::format::symbol_u32;
 use kinds::Place;
 use kinds::SymbolKind;
 ghost use mathlib.Core.Path.{_≡_};
 ghost use Prim.Native.Nat.{_-_};
 ghost use lib.Dec.{eqb};
 ghost use Rattle.util.specs.Pick.{pick};
-ghost use Rattle.le.specs.Le.{splice};
-ghost use Rattle.object.specs.Format.{symbolValue, symbolClass, auxiliaries};
-ghost use Rattle.object.specs.Symbol.{symbolOf, kindOf, placeOf, listedOf, kind, symbolPlace, listedValue, leftAfter, auxiliariesLeft, primaries, isOwn};
-
-// Its value.
-pub fn symbol_value(f: &[u8], h: Header, j: u32) -> u32
-    ensures { λ r. ⌜ r ≡ symbolValue (now (f .entry)) h j ⌝ }
-{
-    symbol_u32(f, h, j, 8)
-}
-
-// Its storage class.
-pub fn symbol_class(f: &[u8], h: Header, j: u32) -> u8
-    ensures { λ r. ⌜ r ≡ symbolClass (now (f .entry)) h j ⌝ }
-{
-    symbol_u8(f, h, j, 16)
-}
+ghost use Rattle.object.specs.Format.{auxiliaries};
+ghost use Rattle.object.specs.Symbol.{symbolIn, symbolOf, kindOf, placeOf, listedOf, kind, symbolPlace, listedValue, leftAfter, auxiliariesLeft};
 
 // How many auxiliary records follow it.
 pub fn auxiliaries(f: &[u8], h: Header, j: u32) -> u8
     ensures { λ r. ⌜ r ≡ auxiliaries (now (f .entry)) h j ⌝ }
 {
-    symbol_u8(f, h, j, 17)
+    le::byte_at(f, symbol_record_at(h, j) + AUXILIARIES_AT)
 }
 
-// All of record j behind its name, at once.
+// What the bytes of a record say behind its name.
+fn fields_of(bytes: &[u8]) -> Symbol
+    ensures { λ r. ⌜ r ≡ symbolIn (now (bytes .entry)) 0 ⌝ }
+{
+    Symbol {
+        value: le::u32_at(bytes, VALUE_AT),
+        number: le::u16_at(bytes, NUMBER_AT),
+        symbol_type: le::u16_at(bytes, TYPE_AT),
+        class: le::byte_at(bytes, CLASS_AT),
+        auxiliaries: le::byte_at(bytes, AUXILIARIES_AT),
+    }
+}
+
+// All of record j behind its name, at once. Where the file has all of it, no field of a part of a known length needs a test.
 pub fn read_symbol(f: &[u8], h: Header, j: u32) -> Symbol
     ensures { λ r. ⌜ r ≡ symbolOf (now (f .entry)) h j ⌝ }
 {
-    let record = le::part(f, symbol_record_at(h, j), SYMBOL_SIZE);
-    Symbol {
-        value: le::u32_at(record, 8),
-        number: le::u16_at(record, 12),
-        symbol_type: le::u16_at(record, 14),
-        class: le::byte_at(record, 16),
-        auxiliaries: le::byte_at(record, 17),
+    let at = symbol_record_at(h, j);
+    let to = at + SYMBOL_SIZE;
+    if to <= f.len() {
+        fields_of(&f[at..to])
+    } else {
+        fields_of(le::part(f, at, SYMBOL_SIZE))
     }
 }
 
@@ -122,32 +122,4 @@ pub fn auxiliaries_past(f: &[u8], h: Header) -> u8
         j += 1;
     }
     left
-}
-
-// 1 for a symbol's own record, 0 for an auxiliary one.
-fn own_mark(left: u8) -> u8
-    ensures { λ r. ⌜ r ≡ pick (eqb left 0) 1 0 ⌝ }
-{
-    if left == 0 { 1 } else { 0 }
-}
-
-// One pass over the symbol records: a byte each, 1 for a symbol's own record and 0 for an auxiliary one.
-pub fn fill_primaries(f: &[u8], h: Header, own: &mut [u8])
-    ensures { λ _. ⌜ now (own .exit) ≡ splice (now (own .entry)) 0 (primaries (now (f .entry)) h (h .symbols)) ⌝ }
-{
-    let n = h.symbols;
-    let mut left: u8 = 0;
-    let mut j: u32 = 0;
-    while j < n {
-        le::put_u8(own, j as usize, own_mark(left));
-        left = left_after(f, h, j, left);
-        j += 1;
-    }
-}
-
-// Record j is a symbol's own, by those bytes.
-pub fn is_own(own: &[u8], j: u32) -> bool
-    ensures { λ r. ⌜ r ≡ isOwn (now (own .entry)) j ⌝ }
-{
-    le::byte_at(own, j as usize) == 1
 }

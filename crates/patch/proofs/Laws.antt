@@ -2,7 +2,7 @@
 use mathlib.Core.Path.{_≡_, refl, sym, ap, _∙_}
 use mathlib.Core.Bool.{Bool, true, false, _&&_}
 use mathlib.Core.List.{List, append-nil, append-assoc}
-use Prim.Native.Nat.{ℕ, zero, suc, _+_, _-_, _%_, _^_, _≤_, _<_}
+use Prim.Native.Nat.{ℕ, zero, suc, _+_, _-_, _*_, _%_, _^_, _≤_, _<_}
 use native.Mathlib.Omega.{arith}
 use lib.Dec.{eqb, leb}
 use native.Mathlib.Nat.{zero-add}
@@ -13,6 +13,8 @@ use borrow.Rule.Slice.PartMut.{putMid, post-is}
 use Rattle.util.specs.Pick.{pick, head-passes, rest-passes, both-ways, and-left, and-right, and-both}
 use Rattle.util.specs.Prefix.{all-at}
 use Rattle.le.specs.Le.{get, le, part, splice, length-le, le-low, get-same, part-at, splice-front}
+use Rattle.limits.specs.Records.{WORD, FIXUP-WORDS}
+use Rattle.words.specs.Words.{wordOf}
 use Rattle.arch.specs.Page.{PAGE-SIZE}
 use Rattle.marks.specs.Marks.{allMarked}
 use Rattle.refusal.specs.Refusal.{new-is, old-is}
@@ -37,11 +39,15 @@ module _ (bits : ℕ) where
 pub ruleset width-ways = (width-narrow, width-wide)
 
 -- ---- a part of a known length, read and written: what is read of it and put into it is so in the whole
-pub part-read : (l : List ℕ) (at n r : ℕ) → r ≡ get n (take (at + n - at) (drop at l)) 0 → r ≡ get n l at
+part-read : (l : List ℕ) (at n r : ℕ) → r ≡ get n (take (at + n - at) (drop at l)) 0 → r ≡ get n l at
 unfolding part
 part-read l at n r e =
     let z : at + n - at ≡ n = omega arith in
     (rw z at e) ∙ get-same n (take n (drop at l)) l 0 at (λ k h. rw zero-add (part-at l at n k h))
+
+pub word-read : (l : List ℕ) (k w r : ℕ) → r ≡ get WORD (take (WORD * (FIXUP-WORDS * k + w) + WORD - WORD * (FIXUP-WORDS * k + w)) (drop (WORD * (FIXUP-WORDS * k + w)) l)) 0 → r ≡ wordOf FIXUP-WORDS l k w
+unfolding wordOf
+word-read l k w r e = part-read l (WORD * (FIXUP-WORDS * k + w)) WORD r e
 
 pub part-put : (l ys : List ℕ) (at n v : ℕ) → at + n ≤ length l → ys ≡ splice (take (at + n - at) (drop at l)) 0 (le n v) → putMid at (at + n - at) l ys ≡ splice l at (le n v)
 unfolding splice

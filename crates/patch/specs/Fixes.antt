@@ -6,17 +6,10 @@ use Prim.Native.Nat.{ℕ, zero, suc, _+_, _-_, _*_, _/_}
 use lib.Dec.{eqb}
 use lib.ListN.{length}
 use Rattle.util.specs.Pick.{pick}
-use Rattle.limits.specs.Limits.{FIXUP-BYTES}
-use Rattle.le.specs.Le.{get, le, splice, length-splice}
+use Rattle.limits.specs.Records.{FIXUP-WORDS, FIXUP-BYTES, FIXUP-PLACE, FIXUP-BITS, FIXUP-VALUE}
+use Rattle.words.specs.Words.{wordOf}
+use Rattle.le.specs.Le.{le, splice, length-splice}
 use Rattle.aspace.specs.Space.{spanMappedAt}
-
--- where the bits of a record stand, in bytes from its start; its place stands first
-abbrev pub BITS-FIELD : ℕ
-BITS-FIELD = 8
-
--- where its value stands
-abbrev pub VALUE-FIELD : ℕ
-VALUE-FIELD = 16
 
 -- the bits of a fixup of 4 bytes
 abbrev pub NARROW : ℕ
@@ -40,15 +33,15 @@ fixCount fixes = length fixes / FIXUP-BYTES
 
 -- record k: the address of its place
 abbrev pub placeAt : List ℕ → ℕ → ℕ
-placeAt fixes k = get 8 fixes (FIXUP-BYTES * k)
+placeAt fixes k = wordOf FIXUP-WORDS fixes k FIXUP-PLACE
 
 -- its width in bits
 abbrev pub bitsAt : List ℕ → ℕ → ℕ
-bitsAt fixes k = get 8 fixes (FIXUP-BYTES * k + BITS-FIELD)
+bitsAt fixes k = wordOf FIXUP-WORDS fixes k FIXUP-BITS
 
 -- its value, in two's complement of 64 bits
 abbrev pub valueAt : List ℕ → ℕ → ℕ
-valueAt fixes k = get 8 fixes (FIXUP-BYTES * k + VALUE-FIELD)
+valueAt fixes k = wordOf FIXUP-WORDS fixes k FIXUP-VALUE
 
 -- the bytes that it covers
 abbrev pub widthOf : ℕ → ℕ

@@ -5,21 +5,23 @@ pub use answer::Patch;
 pub use answer::Progress;
 use arch::PAGE_SIZE;
 use arch::VA;
+use limits::FIXUP_BITS;
 use limits::FIXUP_BYTES;
+use limits::FIXUP_PLACE;
+use limits::FIXUP_VALUE;
+use limits::FIXUP_WORDS;
+use limits::WORD;
 ghost use mathlib.Core.Path.{_≡_};
 ghost use mathlib.Core.Bool.{true};
 ghost use Prim.Native.Nat.{_+_, _%_, _^_, _<_, _≤_};
 ghost use lib.ListN.{length};
 ghost use Rattle.arch.specs.Page.{PAGE-SIZE};
 ghost use Rattle.le.specs.Le.{get, le, splice};
+ghost use Rattle.limits.specs.Records.{FIXUP-WORDS};
+ghost use Rattle.words.specs.Words.{wordOf};
 ghost use Rattle.patch.specs.Fixes.{NARROW-BYTES, WIDE-BYTES, fixCount, placeAt, bitsAt, valueAt, widthOf, knownBits, fixOk, fixed, fixedFrom};
 ghost use Rattle.patch.specs.Inside.{spanIn, fixIn, portionIn, allMapped};
 ghost use Rattle.patch.specs.Patch.{portion, portionOk, patchCode, Patches};
-
-// Where a record has its bits and its value; its place stands first.
-const BITS_FIELD: usize = 8;
-
-const VALUE_FIELD: usize = 16;
 
 // The bits of a narrow fixup and of a wide one, and the bytes that each covers.
 const NARROW: u64 = 32;
@@ -37,12 +39,13 @@ pub fn fix_count(fixes: &[u8]) -> u64
     (fixes.len() / FIXUP_BYTES) as u64
 }
 
-// The number of eight bytes that the list has at `at`: a part of a known length is read by one load.
-fn word(fixes: &[u8], at: usize) -> u64
-    requires { ⌜ at + 8 ≤ length (now fixes) ⌝ }
-    ensures { λ r. ⌜ r ≡ get 8 (now (fixes .entry)) at ⌝ }
+// Word w of record k: a part of a known length is read by one load.
+fn word(fixes: &[u8], k: u64, w: u8) -> u64
+    requires { ⌜ (k < fixCount (now fixes)) × (w < FIXUP-WORDS) ⌝ }
+    ensures { λ r. ⌜ r ≡ wordOf FIXUP-WORDS (now (fixes .entry)) k w ⌝ }
 {
-    let to = at + 8;
+    let at = WORD * (FIXUP_WORDS as usize * k as usize + w as usize);
+    let to = at + WORD;
     le::u64_at(&fixes[at..to], 0)
 }
 
@@ -51,21 +54,21 @@ fn place_at(fixes: &[u8], k: u64) -> VA
     requires { ⌜ k < fixCount (now fixes) ⌝ }
     ensures { λ r. ⌜ r .0 ≡ placeAt (now (fixes .entry)) k ⌝ }
 {
-    VA(word(fixes, FIXUP_BYTES * (k as usize)))
+    VA(word(fixes, k, FIXUP_PLACE))
 }
 
 fn bits_at(fixes: &[u8], k: u64) -> u64
     requires { ⌜ k < fixCount (now fixes) ⌝ }
     ensures { λ r. ⌜ r ≡ bitsAt (now (fixes .entry)) k ⌝ }
 {
-    word(fixes, FIXUP_BYTES * (k as usize) + BITS_FIELD)
+    word(fixes, k, FIXUP_BITS)
 }
 
 fn value_at(fixes: &[u8], k: u64) -> u64
     requires { ⌜ k < fixCount (now fixes) ⌝ }
     ensures { λ r. ⌜ r ≡ valueAt (now (fixes .entry)) k ⌝ }
 {
-    word(fixes, FIXUP_BYTES * (k as usize) + VALUE_FIELD)
+    word(fixes, k, FIXUP_VALUE)
 }
 
 // The bytes that it covers.

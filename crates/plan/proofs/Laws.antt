@@ -7,9 +7,10 @@ use Prim.Native.Nat.{ℕ, zero, suc, _+_, _-_, _*_, _/_, _≤_, _<_}
 use native.Mathlib.Omega.{arith}
 use native.Mathlib.Nat.{mul-comm, suc-mul, mul-le-mul-left, div-mul-le-self, lt-div-mul-add}
 use lib.Dec.{eqb, leb}
-use lib.ListN.{length, length-take, length-replicate}
+use lib.ListN.{length, replicate, length-take, length-replicate}
 use borrow.Author.Tests.{le-leb, lt-leb, ne-eqb, leb-true}
-use Rattle.limits.specs.Limits.{MAX-PAGES, MAX-EXTERNS, EXTERN-ROOM, SECTION-BYTES, SYMBOL-BYTES, EXTERN-BYTES, FIXUP-BYTES, SKIP-BYTES}
+use Rattle.limits.specs.Limits.{MAX-PAGES, MAX-EXTERNS, EXTERN-ROOM}
+use Rattle.limits.specs.Records.{SECTION-BYTES, SYMBOL-BYTES, EXTERN-BYTES, FIXUP-BYTES, SKIP-BYTES}
 use Rattle.refusal.specs.Refusal.{PAGES, EXTERNS, TARGET, PLACE, BASE, STORAGE}
 use Rattle.util.specs.Pick.{pick, le-or-lt, leb-same}
 use Rattle.arch.specs.Page.{PAGE-SIZE}
@@ -34,7 +35,7 @@ use Rattle.survey.specs.declared.answer.Counts.{Counts}
 use Rattle.survey.specs.declared.answer.Survey.{Survey}
 use Rattle.survey.specs.declared.answer.Survey.the-variants as survey
 use Rattle.survey.specs.Survey.{Check, check, firstFailed, recordChecks, externChecks, targetChecks, counts, tally, tallyBy, answerBy}
-use Rattle.survey.specs.Surveying.{Fits, plannedBy, namesIn, homeWords, startWords, codeWords}
+use Rattle.survey.specs.Surveying.{Fits, plannedBy, namesIn, codeRoom, homeWords, startWords, codeWords}
 use Rattle.survey.specs.TableLaws.{homes-whole, starts-front, names-whole, targets-whole}
 use Rattle.survey.specs.SurveyLaws.{check-holds, checks-hold, failed-first, Ordered, ordered, records-rest, fits-is}
 use Rattle.plan.specs.declared.Lengths.{Lengths}
@@ -205,7 +206,7 @@ module _ (f : List ℕ) (h : Header) (base : ℕ) (l : Lengths) (code : ℕ) (ho
       let g : whole ≡ suc k = failed-first (firstChecks f h base) behind k (sym e) in
       (rw g (plan-refused k (counts f h) (length (externs f h))), g)
 
-  pub plans-no : (code ≡ 0 → ⊥) → Blank homes₀ starts₀ codes₀ slots₀ → Plans f (headerOf f) base l homes₀ starts₀ codes₀ slots₀ (plan.Refused code)
+  pub plans-no : (code ≡ 0 → ⊥) → Blank (headerOf f) homes₀ starts₀ codes₀ slots₀ → Plans f (headerOf f) base l homes₀ starts₀ codes₀ slots₀ (plan.Refused code)
   plans-no z blank =
       let n = no-by code is z in
       let p : Plans f h base l homes₀ starts₀ codes₀ slots₀ (plan.Refused code) =
@@ -248,12 +249,13 @@ module _ (f : List ℕ) (h : Header) (base : ℕ) (l : Lengths) (code : ℕ) (ho
   whole-is a o = rw a (records-rest f h behind o)
 
   pub plans-yes : (homes starts codes codes′ slots : List ℕ) (x : Plan) → code ≡ 0 → homes ≡ splice homes₀ 0 (homesTo f h (h .sections)) → starts ≡ splice starts₀ 0 (startsTo f h (h .sections))
-      → codes ≡ splice codes₀ 0 (codesTo f h (h .symbols)) → PlannedIn f h homes starts codes l codes′ slots x → length slots ≡ EXTERN-ROOM → Blank homes₀ starts₀ codes₀ slots₀ → Plans f (headerOf f) base l homes starts codes′ slots x
+      → codes ≡ splice codes₀ 0 (codesTo f h (h .symbols)) → PlannedIn f h homes starts codes l codes′ slots x → length slots ≡ EXTERN-ROOM → Blank (headerOf f) homes₀ starts₀ codes₀ slots₀ → Plans f (headerOf f) base l homes starts codes′ slots x
   plans-yes homes starts codes codes′ slots x z e d w p long blank =
       let o : Ordered f h = ordered f h [] (records-pass f h base code is z) in
       let a : homes ≡ homeWords f h = rw (blank .no-homes) at e in
       let b : starts ≡ startWords f h = rw (blank .no-starts) at d in
-      let c : codes ≡ codeWords f h = rw (blank .no-codes) at w in
+      let v : codes₀ ≡ replicate (codeRoom h) 0 = rw (← head) at (blank .no-codes) in
+      let c : codes ≡ codeWords f h = rw v at w in
       let q : Plans f h base l homes starts codes′ slots x =
       rw (a, b) (whole-yes o (fits-first f h base code is z head) codes′ slots x (rw (a, b, c) at p) long (whole-is (allowed f h base code is z) o)) in
       rw (← head) q

@@ -5,7 +5,8 @@ use mathlib.Core.List.{List, [], _∷_, _++_}
 use Prim.Native.Nat.{ℕ, _*_, _≤_}
 use lib.Dec.{leb, eqb}
 use lib.ListN.{length, replicate}
-use Rattle.limits.specs.Limits.{MAX-SECTIONS, MAX-SYMBOLS, MAX-PAGES, MAX-EXTERNS, EXTERN-ROOM, SECTION-BYTES, SYMBOL-BYTES, EXTERN-BYTES, FIXUP-BYTES, SKIP-BYTES}
+use Rattle.limits.specs.Limits.{MAX-SECTIONS, MAX-PAGES, MAX-EXTERNS, EXTERN-ROOM}
+use Rattle.limits.specs.Records.{SECTION-BYTES, SYMBOL-BYTES, EXTERN-BYTES, FIXUP-BYTES, SKIP-BYTES}
 use Rattle.refusal.specs.Refusal.{BASE, STORAGE}
 use Rattle.util.specs.Pick.{pick}
 use Rattle.arch.specs.Page.{PAGE-SIZE}
@@ -19,6 +20,7 @@ use Rattle.externs.specs.Externs.{externs, slotWords}
 use Rattle.targets.specs.Target.{targets}
 use Rattle.targets.specs.Table.{targetIn}
 use Rattle.survey.specs.declared.answer.Counts.{Counts}
+use Rattle.survey.specs.Surveying.{codeRoom}
 use Rattle.survey.specs.Survey.{Check, check, firstFailed, checks, counts}
 use Rattle.plan.specs.declared.Lengths.{Lengths}
 use Rattle.plan.specs.declared.Plan.{Plan}
@@ -54,11 +56,11 @@ planChecks f h base l = check (baseOk base) BASE ∷ (checks f h ++ roomCheck (c
 unfoldable pub planBy : ℕ → Counts → ℕ → Plan
 planBy code c n = pick (eqb code 0) (Ready c n) (Refused code)
 
--- arrays of zeros
-pub record Blank (homes starts codes slots : List ℕ) : Type 0 where
+-- arrays of zeros, with the room that the file's symbols ask for
+pub record Blank (h : Header) (homes starts codes slots : List ℕ) : Type 0 where
   pub no-homes : homes ≡ replicate MAX-SECTIONS 0
   pub no-starts : starts ≡ replicate MAX-SECTIONS 0
-  pub no-codes : codes ≡ replicate MAX-SYMBOLS 0
+  pub no-codes : codes ≡ replicate (codeRoom h) 0
   pub no-slots : slots ≡ replicate EXTERN-ROOM 0
 
 -- arrays that say what the rules do, and the limits

@@ -5,7 +5,7 @@ use Prim.Native.Nat.{ℕ, zero, suc, _*_, _≤_}
 use native.Mathlib.Omega.{arith}
 use lib.Dec.{eqb, leb}
 use borrow.Author.Tests.{leb-true, ne-eqb}
-use Rattle.limits.specs.Limits.{SECTION-BYTES, SYMBOL-BYTES, EXTERN-BYTES, FIXUP-BYTES, SKIP-BYTES}
+use Rattle.limits.specs.Records.{SECTION-BYTES, SYMBOL-BYTES, EXTERN-BYTES, FIXUP-BYTES, SKIP-BYTES}
 use Rattle.util.specs.Pick.{pick, and-left, and-right}
 use Rattle.arch.specs.Page.{PAGE-SIZE}
 use Rattle.marks.specs.Marks.{WORD-BYTES, wordsFor}

@@ -126,7 +126,7 @@ pub fn plan_file(
     slots: &mut [u32; limits::EXTERN_ROOM],
 ) -> Plan
     ensures { λ r.
-        ⌜ (Blank (now (homes .entry)) (now (starts .entry)) (now (codes .entry)) (now (slots .entry))
+        ⌜ (Blank (headerOf (now (f .entry))) (now (homes .entry)) (now (starts .entry)) (now (codes .entry)) (now (slots .entry))
         → Plans (now (f .entry)) (headerOf (now (f .entry))) (base .0) l (now (homes .exit)) (now (starts .exit)) (now (codes .exit)) (now (slots .exit)) r) ⌝ }
 {
     let h = object::read_header(f);

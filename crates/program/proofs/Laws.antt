@@ -10,7 +10,7 @@ use lib.Seq.{length-take-le}
 use Rattle.arch.specs.Page.{PAGE-SIZE}
 use Rattle.le.specs.Le.{part, IsBytes}
 use Rattle.marks.specs.Marks.{WORD-BYTES, wordsFor}
-use Rattle.limits.specs.Limits.{SECTION-BYTES, SYMBOL-BYTES, EXTERN-BYTES, FIXUP-BYTES, SKIP-BYTES}
+use Rattle.limits.specs.Records.{SECTION-BYTES, SYMBOL-BYTES, EXTERN-BYTES, FIXUP-BYTES, SKIP-BYTES}
 use Rattle.patch.specs.declared.answer.Patch.{Patch}
 use Rattle.patch.specs.Patch.{Patches}
 use Rattle.load.specs.declared.answer.Load.{Load}

@@ -18,7 +18,7 @@ use Rattle.object.specs.Format.{headerOf}
 use Rattle.layout.specs.Layout.{undefStart, startsTo}
 use Rattle.image.specs.Laid.{laidImage}
 use Rattle.image.specs.LaidLaws.{length-laid}
-use Rattle.limits.specs.Limits.{SECTION-BYTES, SYMBOL-BYTES, EXTERN-BYTES, FIXUP-BYTES, SKIP-BYTES}
+use Rattle.limits.specs.Records.{SECTION-BYTES, SYMBOL-BYTES, EXTERN-BYTES, FIXUP-BYTES, SKIP-BYTES}
 use Rattle.checks.specs.Checks.{baseOk}
 use Rattle.survey.specs.declared.answer.Counts.{Counts}
 use Rattle.survey.specs.Survey.{Check, check, firstFailed, checks, counts}

@@ -19,20 +19,19 @@ use Rattle.object.specs.Format.{headerOf}
 use Rattle.object.specs.Section.{loaded, relocationCount, fileStart, fileEnd, rangeLength, permissions}
 use Rattle.object.specs.Symbol.{kind}
 use Rattle.names.specs.declared.Name.{Name}
-use Rattle.names.specs.Name.{sectionName, symbolName}
+use Rattle.names.specs.Name.{sectionName, symbolName, nameStart, nameLength}
 use Rattle.layout.specs.Layout.{recordOf, startsTo, undefStart}
 use Rattle.homes.specs.Home.{sectionHome, homeRecords}
 use Rattle.homes.specs.Listed.{listed, listedOffset}
 use Rattle.externs.specs.Externs.{externs}
 use Rattle.words.specs.Picked.{count-below}
-use Rattle.words.specs.Words.{wordOf, nameStart, nameLength}
+use Rattle.words.specs.Words.{wordOf}
 use Rattle.tables.specs.Sections.{sectionWords}
 use Rattle.tables.specs.Externs.{externWords}
-use Rattle.tables.specs.TableLaws.{sections-fill, length-externs}
-use Rattle.tables.specs.LoadedLaws.{section-of-load, extern-of-load}
+use Rattle.tables.specs.TableLaws.{length-sections, section-record, length-externs, extern-back}
 use Rattle.symbol_table.specs.Symbols.{symbolWords}
-use Rattle.symbol_table.specs.SymbolLaws.{symbols-fill, symbol-of-load}
-use Rattle.limits.specs.Limits.{FIXUP-BYTES, SKIP-BYTES}
+use Rattle.symbol_table.specs.SymbolLaws.{length-symbols, symbol-record}
+use Rattle.limits.specs.Records.{SECTION-WORDS, SYMBOL-WORDS, EXTERN-WORDS, FIXUP-WORDS, SKIP-WORDS}
 use Rattle.targets.specs.Target.{skipNumber}
 use Rattle.fixups.specs.Lists.{SkipAt, skipList}
 use Rattle.lists.specs.Relocations.{fixWords, skipWords}
@@ -108,12 +107,12 @@ module _ (f : List ℕ) (c : Counts) (is : verdictOf f ≡ Lines c) where
   unfolding lineOf
   section-at k q = rw is (at-row (sectionLineAt f (sectionsOf f PROGRAM-BASE)) (fromSymbols f c (symbolsOf f) (externsOf f PROGRAM-BASE) (fixTableOf f PROGRAM-BASE) (skipTableOf f)) (c .sections) k q)
 
-  section-word : (i : ℕ) → i < h .sections → loaded f h i ≡ true → (w : ℕ) → w < 8
-      → wordOf 8 (sectionsOf f PROGRAM-BASE) (recordOf f h i) w ≡ low (getD (sectionWords f h PROGRAM-BASE starts i) w 0)
+  section-word : (i : ℕ) → i < h .sections → loaded f h i ≡ true → (w : ℕ) → w < SECTION-WORDS
+      → wordOf SECTION-WORDS (sectionsOf f PROGRAM-BASE) (recordOf f h i) w ≡ low (getD (sectionWords f h PROGRAM-BASE starts i) w 0)
   section-word i n t w q =
       rw (splice-self (sectionsOf f PROGRAM-BASE)) at
-      (section-of-load f h PROGRAM-BASE starts (undefStart f h) (sectionsOf f PROGRAM-BASE)
-      (let z = sections-fill f h PROGRAM-BASE starts (undefStart f h) in omega arith) w q i n t)
+      (section-record f h PROGRAM-BASE starts (undefStart f h) (sectionsOf f PROGRAM-BASE)
+      (let z = length-sections f h PROGRAM-BASE starts (undefStart f h) in omega arith) w q i n t)
 
   pub section-said : (i : ℕ) → i < h .sections → loaded f h i ≡ true
       → lineOf f (suc (recordOf f h i))
@@ -137,12 +136,12 @@ module _ (f : List ℕ) (c : Counts) (is : verdictOf f ≡ Lines c) where
       (behind (sectionLineAt f (sectionsOf f PROGRAM-BASE)) (c .sections) k (fromSymbols f c (symbolsOf f) (externsOf f PROGRAM-BASE) (fixTableOf f PROGRAM-BASE) (skipTableOf f))
       ∙ at-row (symbolLineAt f (symbolsOf f)) (fromExterns f c (externsOf f PROGRAM-BASE) (fixTableOf f PROGRAM-BASE) (skipTableOf f)) (c .symbols) k q)
 
-  symbol-word : (j : ℕ) → j < h .symbols → listed f h (sectionHome f h) j ≡ true → (w : ℕ) → w < 6
-      → wordOf 6 (symbolsOf f) (countTo (listed f h (sectionHome f h)) j) w ≡ low (getD (symbolWords f h PROGRAM-BASE (sectionHome f h) (homeRecords f h (h .sections)) j) w 0)
+  symbol-word : (j : ℕ) → j < h .symbols → listed f h (sectionHome f h) j ≡ true → (w : ℕ) → w < SYMBOL-WORDS
+      → wordOf SYMBOL-WORDS (symbolsOf f) (countTo (listed f h (sectionHome f h)) j) w ≡ low (getD (symbolWords f h PROGRAM-BASE (sectionHome f h) (homeRecords f h (h .sections)) j) w 0)
   symbol-word j n t w q =
       rw (splice-self (symbolsOf f)) at
-      (symbol-of-load f h PROGRAM-BASE (sectionHome f h) (homeRecords f h (h .sections)) (symbolsOf f)
-      (let z = symbols-fill f h PROGRAM-BASE (sectionHome f h) (homeRecords f h (h .sections)) in omega arith) w q j n t)
+      (symbol-record f h PROGRAM-BASE (sectionHome f h) (homeRecords f h (h .sections)) (symbolsOf f)
+      (let z = length-symbols f h PROGRAM-BASE (sectionHome f h) (homeRecords f h (h .sections)) in omega arith) w q j n t)
 
   pub symbol-said : (j : ℕ) → j < h .symbols → listed f h (sectionHome f h) j ≡ true
       → lineOf f (suc (c .sections + countTo (listed f h (sectionHome f h)) j))
@@ -164,10 +163,10 @@ module _ (f : List ℕ) (c : Counts) (is : verdictOf f ≡ Lines c) where
       ∙ behind (symbolLineAt f (symbolsOf f)) (c .symbols) e (fromExterns f c (externsOf f PROGRAM-BASE) (fixTableOf f PROGRAM-BASE) (skipTableOf f))
       ∙ at-row (externLineAt f (externsOf f PROGRAM-BASE)) (fromFixups c (fixTableOf f PROGRAM-BASE) (skipTableOf f)) (c .externs) e q)
 
-  extern-word : (e : ℕ) → e < length (externs f h) → (w : ℕ) → w < 4 → wordOf 4 (externsOf f PROGRAM-BASE) e w ≡ low (getD (externWords f h PROGRAM-BASE (undefStart f h) (externs f h) e) w 0)
+  extern-word : (e : ℕ) → e < length (externs f h) → (w : ℕ) → w < EXTERN-WORDS → wordOf EXTERN-WORDS (externsOf f PROGRAM-BASE) e w ≡ low (getD (externWords f h PROGRAM-BASE (undefStart f h) (externs f h) e) w 0)
   extern-word e n w q =
       rw (splice-self (externsOf f PROGRAM-BASE)) at
-      (extern-of-load f h PROGRAM-BASE (undefStart f h) (externs f h) (length (externs f h)) e w (externsOf f PROGRAM-BASE)
+      (extern-back f h PROGRAM-BASE (undefStart f h) (externs f h) (length (externs f h)) e w (externsOf f PROGRAM-BASE)
       (let z = length-externs f h PROGRAM-BASE (undefStart f h) (externs f h) (length (externs f h)) in omega arith) n q)
 
   pub extern-said : (e : ℕ) → e < length (externs f h)
@@ -188,13 +187,11 @@ module _ (f : List ℕ) (c : Counts) (is : verdictOf f ≡ Lines c) where
       ∙ behind (externLineAt f (externsOf f PROGRAM-BASE)) (c .externs) k (fromFixups c (fixTableOf f PROGRAM-BASE) (skipTableOf f))
       ∙ at-row (fixLineAt (fixTableOf f PROGRAM-BASE)) (fromSkips c (skipTableOf f)) (c .fixups) k q)
 
-  fix-word : (k : ℕ) → k < length (fixupsOf f) → (w : ℕ) → w < 3 → wordOf 3 (fixTableOf f PROGRAM-BASE) k w ≡ low (getD (fixWords PROGRAM-BASE (fixupAt f k)) w 0)
-  unfolding wordOf
+  fix-word : (k : ℕ) → k < length (fixupsOf f) → (w : ℕ) → w < FIXUP-WORDS → wordOf FIXUP-WORDS (fixTableOf f PROGRAM-BASE) k w ≡ low (getD (fixWords PROGRAM-BASE (fixupAt f k)) w 0)
   fix-word k n w q =
       let l = length-fixes PROGRAM-BASE (outcomes f h) (relocationCount f h) (h .sections) in
-      let e : 8 * (3 * k + w) ≡ FIXUP-BYTES * k + 8 * w = omega arith in
       let t = fix-back PROGRAM-BASE (outcomes f h) (relocationCount f h) (h .sections) k (fixTableOf f PROGRAM-BASE) noFixup (omega arith) n w q in
-      rw e (rw (splice-self (fixTableOf f PROGRAM-BASE)) at t)
+      rw (splice-self (fixTableOf f PROGRAM-BASE)) at t
 
   pub fix-said : (k : ℕ) → k < length (fixupsOf f)
       → lineOf f (suc (c .sections + (c .symbols + (c .externs + k)))) ≡ fixLine (low (fixupPlace f PROGRAM-BASE k)) (low (fixupAt f k .bits)) (low (fixupValue f PROGRAM-BASE k))
@@ -218,13 +215,11 @@ module _ (f : List ℕ) (c : Counts) (is : verdictOf f ≡ Lines c) where
   abbrev skips : List SkipAt
   skips = skipList (outcomes f h) (relocationCount f h) (h .sections)
 
-  skip-word : (k : ℕ) (d : SkipAt) → k < length skips → (w : ℕ) → w < 3 → wordOf 3 (skipTableOf f) k w ≡ low (getD (skipRow (getD skips k d)) w 0)
-  unfolding wordOf
+  skip-word : (k : ℕ) (d : SkipAt) → k < length skips → (w : ℕ) → w < SKIP-WORDS → wordOf SKIP-WORDS (skipTableOf f) k w ≡ low (getD (skipRow (getD skips k d)) w 0)
   skip-word k d n w q =
       let l = length-skips (outcomes f h) (relocationCount f h) (h .sections) in
-      let e : 8 * (3 * k + w) ≡ SKIP-BYTES * k + 8 * w = omega arith in
       let t = skip-back (outcomes f h) (relocationCount f h) (h .sections) k (skipTableOf f) d (omega arith) n w q in
-      rw e (rw (splice-self (skipTableOf f)) at t)
+      rw (splice-self (skipTableOf f)) at t
 
   pub skip-said : (k : ℕ) (d : SkipAt) → k < length skips
       → lineOf f (suc (c .sections + (c .symbols + (c .externs + (c .fixups + k)))))

@@ -132,7 +132,11 @@ fn lend(f: &[u8], c: Counts) -> Written
     let mut fixups_room = [0u8; FIXUPS_ROOM];
     let mut skips_room = [0u8; SKIPS_ROOM];
     let image_bytes = bytes(PAGE_SIZE as usize, c.pages, IMAGE_ROOM);
-    let marks_bytes = bytes(words::WORD, marks::words_for(c.pages), MARKS_ROOM);
+    let marks_bytes = bytes(
+        marks::WORD_BYTES as usize,
+        marks::words_for(c.pages),
+        MARKS_ROOM,
+    );
     let sections_bytes = bytes(limits::SECTION_BYTES, c.sections, SECTIONS_ROOM);
     let symbols_bytes = bytes(limits::SYMBOL_BYTES, c.symbols, SYMBOLS_ROOM);
     let externs_bytes = bytes(limits::EXTERN_BYTES, c.externs, EXTERNS_ROOM);

@@ -1,26 +1,28 @@
 -- The ways through the code. Assumes nothing.
-use mathlib.Core.Path.{_≡_, sym, _∙_}
+use mathlib.Core.Path.{_≡_, refl, sym, ap, _∙_}
 use mathlib.Core.Bool.{Bool, true, false, _&&_, _||_, not}
 use mathlib.Core.List.{List, [], _∷_}
 use mathlib.Core.Logic.{⊎-elim}
 use Prim.Native.Nat.{ℕ, suc, _+_, _-_, _*_, _/_, _%_, _≤_, _<_, _^_, min}
 use native.Mathlib.Omega.{arith}
+use native.Mathlib.Numerals.{add-one}
 use borrow.Author.Tests.{lt-ltb, le-ltb, ltb-true, eqb-true, not-true, not-false}
-use lib.ListN.{length, getD}
+use lib.ListN.{length, getD, take, drop, length-take, length-drop}
 use lib.Dec.{ltb, leb, eqb}
 use Rattle.util.specs.Pick.{pick, yes-no, le-or-lt, and-left, and-right}
-use Rattle.le.specs.Le.{get, part, splice, splice-long, part-most, fill-none, fill-again, fill-end}
+use Rattle.util.specs.Prefix.{allTo, all-at}
+use Rattle.le.specs.Le.{get, part, splice, splice-long, part-at, part-most, fill-none, fill-again, fill-end}
 use Rattle.object.specs.declared.Header.{Header}
-use Rattle.object.specs.Format.{LENGTH-SIZE, stringTable, stringLength, sectionHeaderAt, symbolRecordAt}
+use Rattle.object.specs.Format.{NAME-SIZE, LONG-OFFSET-AT, LENGTH-SIZE, stringTable, stringLength, sectionHeaderAt, symbolRecordAt}
 use Rattle.names.specs.declared.Name.{Name}
 use Rattle.names.specs.declared.Name.the-variants.{Good, Bad}
 use Rattle.names.specs.declared.Digits.{Digits}
 use Rattle.names.specs.declared.Digits.the-variants as digits
-use Rattle.names.specs.Bytes.{visible}
-use Rattle.names.specs.Name.{SLASH, slashOffset, sectionName, symbolName}
-use Rattle.stops.specs.Stops.{strings, stopIn, stop, BLOCK, blocksOf, stopWords, stopCount, stopsOf, stopBehind, stopBy}
-use Rattle.stops.specs.StopLaws.{past, stop-least, stop-low, stop-same}
-use Rattle.stops.specs.Names.{mayEnd, longBy, slashNameBy, symbolNameBy, sectionNameBy}
+use Rattle.names.specs.Bytes.{visible, allVisible}
+use Rattle.names.specs.Name.{SLASH, slashOffset, sectionName}
+use Rattle.stops.specs.Stops.{EIGHT, ENOUGH, strings, stopIn, stop, BLOCK, blocksOf, stopWords, stopCount, stopsOf, stopBehind, stopBy}
+use Rattle.stops.specs.StopLaws.{VisibleTo, stop-visible, past, stop-least, stop-low, stop-same}
+use Rattle.stops.specs.Names.{mayEnd, fieldEnds, fieldTo, longBy, slashNameBy, symbolNameBy, sectionNameBy}
 
 -- ---- the string table
 module _ (f t : List ℕ) (h : Header) (k l : ℕ) (is : t ≡ part f k l) where
@@ -31,6 +33,53 @@ module _ (f t : List ℕ) (h : Header) (k l : ℕ) (is : t ≡ part f k l) where
   strings-short b = let m = part-most f k l in rw is (omega arith)
 
 pub ruleset table = (strings-are, strings-short)
+
+-- ---- eight bytes at once
+module _ (s : List ℕ) where
+  abbrev pub seen : ℕ → Bool
+  seen k = visible (getD s k 0)
+
+  pub eight-none : true ≡ allTo seen 0
+  unfolding allTo
+  eight-none = refl
+
+  pub eight-more : (k : ℕ) (a b r : Bool) → a ≡ allTo seen k → b ≡ visible (getD s k 0) → r ≡ (a && b) → r ≡ allTo seen (k + 1)
+  unfolding allTo
+  eight-more k a b r e d q = rw (add-one, ← e, ← d) q
+
+  pub eight-all : (k : ℕ) (a : Bool) → a ≡ allTo seen k → k ≤ EIGHT → EIGHT ≤ k → length s ≡ EIGHT → a ≡ allVisible s
+  eight-all k a e p q l = let z : k ≡ length s = omega arith in rw (← z) e
+
+pub ruleset eight-loop = (eight-none, eight-more, eight-all)
+
+module _ (t : List ℕ) (i e : ℕ) where
+  pub visible-none : i ≤ e → VisibleTo t i e i
+  visible-none l = record { behind = omega arith; before = l; seen = λ k a b. absurd (omega arith) }
+
+  pub leap-fits : (k : ℕ) → VisibleTo t i e k → ENOUGH ≤ e - k → (i < e → e ≤ length t) → k + EIGHT ≤ length t
+  leap-fits k p l room = let a = p .behind in let b = room (omega arith) in omega arith
+
+  -- of the eight from k on
+  pub visible-more : (k : ℕ) (r : Bool) → VisibleTo t i e k → ENOUGH ≤ e - k → r ≡ allVisible (take (k + EIGHT - k) (drop k t)) → not r ≡ false → (i < e → e ≤ length t) → VisibleTo t i e (k + EIGHT)
+  unfolding part
+  visible-more k r p l v z room =
+      let n : k + EIGHT - k ≡ EIGHT = omega arith in
+      let y : allVisible (take EIGHT (drop k t)) ≡ true = sym (rw n at v) ∙ not-false r z in
+      let inside = leap-fits k p l room in
+      let w : length (take EIGHT (drop k t)) ≡ EIGHT = rw (length-take, length-drop) (omega arith) in
+      record {
+        behind = let a = p .behind in omega arith;
+        before = let a = p .before in omega arith;
+        seen = λ j a b.
+            ⊎-elim (λ (q : k ≤ j).
+            let s : k + (j - k) ≡ j = omega arith in
+            let u : visible (getD (take EIGHT (drop k t)) (j - k) 0) ≡ true = all-at (λ m. visible (getD (take EIGHT (drop k t)) m 0)) (length (take EIGHT (drop k t))) (j - k) y (omega arith) in
+            ap visible (sym (rw s at (part-at t k EIGHT (j - k) (omega arith)))) ∙ u)
+            (λ (q : j < k). p .seen j a q)
+            (le-or-lt k j);
+      }
+
+pub ruleset leap-loop = (visible-none, leap-fits, visible-more)
 
 -- ---- scan: w of the n places from i lie within the table
 module _ (t : List ℕ) (i n k w x : ℕ) where
@@ -52,10 +101,24 @@ module _ (t : List ℕ) (i n k w x : ℕ) where
       (λ (c : length t - i < n). let z : i + n - k ≡ suc (i + n - (k + 1)) = omega arith in rw (z, past t k (omega arith)) at e)
       (le-or-lt n (length t - i))
 
-pub scan-begin : (t : List ℕ) (i n : ℕ) → stopIn t i (i + n - i) ≡ stopIn t i n
-scan-begin t i n = let e : i + n - i ≡ n = omega arith in rw e
+pub scan-begin : (t : List ℕ) (i n w k : ℕ) → w ≡ min n (length t - i) → VisibleTo t i (i + w) k → stopIn t k (i + n - k) ≡ stopIn t i n
+scan-begin t i n w k q p =
+    let a = p .behind in
+    let b = p .before in
+    let e : i + (k - i) ≡ k = omega arith in
+    let d : i + n - k ≡ n - (k - i) = omega arith in
+    rw d (rw e at (stop-visible t (k - i) i n (omega arith) (λ j c x. p .seen j c (omega arith))))
 
-pub ruleset scan-loop = (scan-begin, scan-found, scan-more, scan-end)
+pub scan-room : (t : List ℕ) (i n w : ℕ) → w ≡ min n (length t - i) → i < i + w → i + w ≤ length t
+scan-room t i n w q l = omega arith
+
+pub scan-from : (t : List ℕ) (i e k : ℕ) → VisibleTo t i e k → i ≤ k
+scan-from t i e k p = p .behind
+
+pub scan-to : (t : List ℕ) (i e k : ℕ) → VisibleTo t i e k → k ≤ e
+scan-to t i e k p = p .before
+
+pub ruleset scan-loop = (scan-begin, scan-room, scan-from, scan-to, scan-found, scan-more, scan-end)
 
 -- ---- the stops of the blocks, one behind another
 module _ (t : List ℕ) (b s : ℕ) where
@@ -140,15 +203,36 @@ module _ (f : List ℕ) (h : Header) (stops t : List ℕ) (n o s : ℕ) (empty r
 
 pub ruleset long-ways = (end-behind, end-fits, long-good, long-bad)
 
+-- ---- the name in a field
+module _ (f : List ℕ) (at s : ℕ) where
+  pub field-ends : (b : ℕ) {r x : Bool} → r ≡ (ltb at s && x) → x ≡ (eqb s (at + NAME-SIZE) || eqb b 0) → b ≡ getD f s 0 → r ≡ fieldEnds f at s
+  unfolding fieldEnds
+  field-ends b e d q = rw (← q, ← d) e
+
+  module _ (r : Bool) (says : r ≡ fieldEnds f at s) where
+    pub field-behind : r ≡ true → at ≤ s
+    unfolding fieldEnds
+    field-behind y = let l = ltb-true at s (and-left (ltb at s) _ (sym says ∙ y)) in omega arith
+
+    pub field-good : r ≡ true → s ≡ stopIn f at NAME-SIZE → Good at (s - at) ≡ fieldTo f at (stopIn f at NAME-SIZE)
+    unfolding pick
+    field-good y q = rw (← q, ← says, y)
+
+    pub field-bad : r ≡ false → s ≡ stopIn f at NAME-SIZE → Bad ≡ fieldTo f at (stopIn f at NAME-SIZE)
+    unfolding pick
+    field-bad y q = rw (← q, ← says, y)
+
+pub ruleset field-ways = (field-ends, field-behind, field-good, field-bad)
+
 -- ---- the name of a symbol and of a section
 module _ (f : List ℕ) (h : Header) (stops : List ℕ) {r : Name} where
-  pub symbol-long : (j at x o : ℕ) → at ≡ symbolRecordAt h j → x ≡ get 4 f at → eqb x 0 ≡ true → o ≡ get 4 f (at + 4) → r ≡ longBy f h stops false o → r ≡ symbolNameBy f h stops j
+  pub symbol-long : (j at x o : ℕ) → at ≡ symbolRecordAt h j → x ≡ get 4 f at → eqb x 0 ≡ true → o ≡ get 4 f (at + LONG-OFFSET-AT) → r ≡ longBy f h stops false o → r ≡ symbolNameBy f h stops j
   unfolding symbolNameBy pick
   symbol-long j at x o a e z q p = rw (← a, ← e, z, ← q) p
 
-  pub symbol-short : (j at x : ℕ) → at ≡ symbolRecordAt h j → x ≡ get 4 f at → eqb x 0 ≡ false → r ≡ symbolName f h j → r ≡ symbolNameBy f h stops j
+  pub symbol-short : (j at x : ℕ) → at ≡ symbolRecordAt h j → x ≡ get 4 f at → eqb x 0 ≡ false → r ≡ fieldTo f at (stopIn f at NAME-SIZE) → r ≡ symbolNameBy f h stops j
   unfolding symbolNameBy pick
-  symbol-short j at x a e z p = let y : eqb (get 4 f (symbolRecordAt h j)) 0 ≡ false = rw (← a, ← e) z in rw y p
+  symbol-short j at x a e z p = let y : eqb (get 4 f (symbolRecordAt h j)) 0 ≡ false = rw (← a, ← e) z in rw y (rw a at p)
 
   pub slash-long : (d : Digits) (o : ℕ) → d ≡ digits.Offset o → r ≡ longBy f h stops true o → r ≡ slashNameBy f h stops d
   unfolding slashNameBy

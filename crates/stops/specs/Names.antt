@@ -7,13 +7,13 @@ use lib.ListN.{getD}
 use Rattle.util.specs.Pick.{pick}
 use Rattle.le.specs.Le.{get}
 use Rattle.object.specs.declared.Header.{Header}
-use Rattle.object.specs.Format.{LENGTH-SIZE, sectionHeaderAt, symbolRecordAt, stringTable, stringLength}
+use Rattle.object.specs.Format.{NAME-SIZE, LONG-OFFSET-AT, LENGTH-SIZE, sectionHeaderAt, symbolRecordAt, stringTable, stringLength}
 use Rattle.names.specs.declared.Name.{Name}
 use Rattle.names.specs.declared.Name.the-variants.{Good, Bad}
 use Rattle.names.specs.declared.Digits.{Digits}
 use Rattle.names.specs.declared.Digits.the-variants as digits
-use Rattle.names.specs.Name.{SLASH, slashOffset, sectionName, symbolName}
-use Rattle.stops.specs.Stops.{strings, stopBy}
+use Rattle.names.specs.Name.{SLASH, slashOffset, sectionName}
+use Rattle.stops.specs.Stops.{strings, stopIn, stopBy}
 
 -- in a table that says it has n bytes a name at offset o may end at s: there is a zero within them, behind o, or at o where a name may be empty
 unfoldable pub mayEnd : List ℕ → ℕ → Bool → ℕ → ℕ → Bool
@@ -27,9 +27,19 @@ longTo f h empty o s = pick (mayEnd (strings f h) (stringLength f h) empty o s) 
 abbrev pub longBy : List ℕ → Header → List ℕ → Bool → ℕ → Name
 longBy f h stops empty o = longTo f h empty o (stopBy (strings f h) stops o)
 
+-- a symbol's name in its field at `at` may end at s: behind `at`, at the field's end or at a zero
+unfoldable pub fieldEnds : List ℕ → ℕ → ℕ → Bool
+fieldEnds f at s = ltb at s && (eqb s (at + NAME-SIZE) || eqb (getD f s 0) 0)
+
+-- that name, if its visible bytes end at s
+abbrev pub fieldTo : List ℕ → ℕ → ℕ → Name
+fieldTo f at s = pick (fieldEnds f at s) (Good at (s - at)) Bad
+
 -- the name of symbol j
 unfoldable pub symbolNameBy : List ℕ → Header → List ℕ → ℕ → Name
-symbolNameBy f h stops j = pick (eqb (get 4 f (symbolRecordAt h j)) 0) (longBy f h stops false (get 4 f (symbolRecordAt h j + 4))) (symbolName f h j)
+symbolNameBy f h stops j =
+    pick (eqb (get 4 f (symbolRecordAt h j)) 0) (longBy f h stops false (get 4 f (symbolRecordAt h j + LONG-OFFSET-AT)))
+    (fieldTo f (symbolRecordAt h j) (stopIn f (symbolRecordAt h j) NAME-SIZE))
 
 -- a section's that begins with a slash, by its digits
 unfoldable pub slashNameBy : List ℕ → Header → List ℕ → Digits → Name

@@ -20,17 +20,34 @@ module _ (t : List ℕ) where
     pub seen : (k : ℕ) → o ≤ k → k < s → visible (getD t k 0) ≡ true
     pub ends : visible (getD t s 0) ≡ false
 
+  -- the bytes from i to r are visible, and r is not behind e
+  pub record VisibleTo (i e r : ℕ) : Type 0 where
+    pub behind : i ≤ r
+    pub before : r ≤ e
+    pub seen : (k : ℕ) → i ≤ k → k < r → visible (getD t k 0) ≡ true
+
+  -- the stop is the same from behind them
+  pub stop-visible : (d i n : ℕ) → d ≤ n → ((k : ℕ) → i ≤ k → k < i + d → visible (getD t k 0) ≡ true) → stopIn t (i + d) (n - d) ≡ stopIn t i n
+  unfolding stopIn pick
+  stop-visible zero i n l v = let e : i + 0 ≡ i = omega arith in let d : n - 0 ≡ n = omega arith in rw (e, d)
+  stop-visible (suc d) i zero l v = absurd (omega arith)
+  stop-visible (suc d) i (suc n) l v =
+      let e : i + suc d ≡ i + 1 + d = omega arith in
+      let y : visible (getD t i 0) ≡ true = v i (omega arith) (omega arith) in
+      let g : suc n - suc d ≡ n - d = omega arith in
+      rw (y, e, g) (stop-visible d (i + 1) n (omega arith) (λ k a b. v k (omega arith) (omega arith)))
+
   pub stop-least : (i n : ℕ) → i ≤ stopIn t i n
   unfolding stopIn pick
   stop-least i zero = omega arith
   stop-least i (suc n) = ⊎-elim (λ e. rw e (let r = stop-least (i + 1) n in omega arith)) (λ e. rw e (omega arith)) (yes-no (visible (getD t i 0)))
 
-  stop-most : (i n : ℕ) → stopIn t i n ≤ i + n
+  pub stop-most : (i n : ℕ) → stopIn t i n ≤ i + n
   unfolding stopIn pick
   stop-most i zero = omega arith
   stop-most i (suc n) = ⊎-elim (λ e. rw e (let r = stop-most (i + 1) n in omega arith)) (λ e. rw e (omega arith)) (yes-no (visible (getD t i 0)))
 
-  stop-seen : (i n k : ℕ) → i ≤ k → k < stopIn t i n → visible (getD t k 0) ≡ true
+  pub stop-seen : (i n k : ℕ) → i ≤ k → k < stopIn t i n → visible (getD t k 0) ≡ true
   unfolding stopIn pick
   stop-seen i zero k a b = absurd (omega arith)
   stop-seen i (suc n) k a b =
@@ -40,7 +57,7 @@ module _ (t : List ℕ) where
       (λ e. let z : k < i = rw e at b in absurd (omega arith))
       (yes-no (visible (getD t i 0)))
 
-  stop-end : (i n : ℕ) → stopIn t i n < i + n → visible (getD t (stopIn t i n) 0) ≡ false
+  pub stop-end : (i n : ℕ) → stopIn t i n < i + n → visible (getD t (stopIn t i n) 0) ≡ false
   unfolding stopIn pick
   stop-end i zero a = absurd (omega arith)
   stop-end i (suc n) a =

@@ -23,14 +23,22 @@ stopIn t i (suc n) = pick (visible (getD t i 0)) (stopIn t (i + 1) n) i
 abbrev pub stop : List ℕ → ℕ → ℕ
 stop t o = stopIn t o (length t)
 
+-- how many bytes one look takes
+abbrev pub EIGHT : ℕ
+EIGHT = 8
+
+-- how many must be left for it
+abbrev pub ENOUGH : ℕ
+ENOUGH = 16
+
 -- ---- what is noted
 -- the bytes of a block
 abbrev pub BLOCK : ℕ
-BLOCK = 4096
+BLOCK = 16384
 
 -- the blocks whose stop is noted: those of a table of 4 MiB. Of a longer one the answer is the same, and found more slowly
 abbrev pub BLOCKS : ℕ
-BLOCKS = 1024
+BLOCKS = 256
 
 -- how many blocks are noted of a table of n bytes
 abbrev pub blocksOf : ℕ → ℕ

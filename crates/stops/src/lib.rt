@@ -7,14 +7,22 @@ ghost use mathlib.Core.Path.{_≡_};
 ghost use Prim.Native.Nat.{_-_, _*_, _/_, _+_, _<_, _≤_, _^_};
 ghost use lib.ListN.{length};
 ghost use Rattle.le.specs.Le.{splice};
-ghost use Rattle.stops.specs.Stops.{BLOCK, strings, stopIn, stop, blocksOf, stopWords, stopCount, stopsOf, stopBy};
-ghost use Rattle.stops.specs.Names.{mayEnd, longBy, slashNameBy, symbolNameBy, sectionNameBy};
+ghost use Rattle.object.specs.Format.{NAME-SIZE};
+ghost use Rattle.names.specs.Bytes.{allVisible};
+ghost use Rattle.stops.specs.Stops.{EIGHT, BLOCK, strings, stopIn, stop, blocksOf, stopWords, stopCount, stopsOf, stopBy};
+ghost use Rattle.stops.specs.StopLaws.{VisibleTo};
+ghost use Rattle.stops.specs.Names.{mayEnd, fieldEnds, fieldTo, longBy, slashNameBy, symbolNameBy, sectionNameBy};
+
+// How many bytes one look takes, and how many must be left for it: a name in its field is too short to gain by it.
+const EIGHT: usize = 8;
+
+const ENOUGH: usize = 16;
 
 // The bytes of a block.
-const BLOCK: usize = 4096;
+const BLOCK: usize = 16384;
 
 // The blocks whose stop is noted: those of a table of 4 MiB.
-pub const BLOCKS: usize = 1024;
+pub const BLOCKS: usize = 256;
 
 // The string table's bytes.
 fn strings(f: &[u8], h: Header) -> &[u8]
@@ -25,12 +33,42 @@ fn strings(f: &[u8], h: Header) -> &[u8]
     le::part(f, object::string_table(h), length as usize)
 }
 
+// Each of eight bytes is visible; without a way out between them they are compared at once.
+fn eight_visible(s: &[u8]) -> bool
+    requires { ⌜ length (now s) ≡ EIGHT ⌝ }
+    ensures { λ r. ⌜ r ≡ allVisible (now (s .entry)) ⌝ }
+{
+    let mut ok = true;
+    let mut k: usize = 0;
+    while k < EIGHT {
+        ok = util::both(ok, names::is_visible(s[k]));
+        k += 1;
+    }
+    ok
+}
+
+// From i on, behind as many bytes before e as are visible eight by eight.
+fn leap(t: &[u8], i: usize, e: usize) -> usize
+    requires { ⌜ (i ≤ e) × (i < e → e ≤ length (now t)) ⌝ }
+    ensures { λ r. ⌜ VisibleTo (now (t .entry)) i e r ⌝ }
+{
+    let mut k = i;
+    while ENOUGH <= e - k {
+        let to = k + EIGHT;
+        if !eight_visible(&t[k..to]) {
+            return k;
+        }
+        k = to;
+    }
+    k
+}
+
 // The first of the n places from i whose byte no name may have, and i + n where there is none.
 fn scan(t: &[u8], i: usize, n: usize) -> usize
     ensures { λ r. ⌜ r ≡ stopIn (now (t .entry)) i n ⌝ }
 {
     let e = i + le::room(t.len(), i, n);
-    let mut k = i;
+    let mut k = leap(t, i, e);
     while k < e {
         if !names::is_visible(t[k]) {
             return k;
@@ -144,6 +182,30 @@ fn long_name(f: &[u8], h: Header, stops: &[u32], empty: bool, o: usize) -> Name
     }
 }
 
+// A name in the field at `at` may end at s.
+fn field_ends(f: &[u8], at: usize, s: usize) -> bool
+    requires { ⌜ at < 2 ^ 38 ⌝ }
+    ensures { λ r. ⌜ r ≡ fieldEnds (now (f .entry)) at s ⌝ }
+{
+    util::both(
+        at < s,
+        util::either(s == at + object::NAME_SIZE, le::byte_at(f, s) == 0),
+    )
+}
+
+// The name in the field at `at`.
+fn field_name(f: &[u8], at: usize) -> Name
+    requires { ⌜ at < 2 ^ 38 ⌝ }
+    ensures { λ r. ⌜ r ≡ fieldTo (now (f .entry)) at (stopIn (now (f .entry)) at NAME-SIZE) ⌝ }
+{
+    let s = scan(f, at, object::NAME_SIZE);
+    if field_ends(f, at, s) {
+        Name::Good(at, s - at)
+    } else {
+        Name::Bad
+    }
+}
+
 // The name of symbol j.
 pub fn symbol_name(f: &[u8], h: Header, stops: &[u32], j: u32) -> Name
     ensures { λ r. ⌜ r ≡ symbolNameBy (now (f .entry)) h (now (stops .entry)) j ⌝ }
@@ -151,10 +213,10 @@ pub fn symbol_name(f: &[u8], h: Header, stops: &[u32], j: u32) -> Name
     let at = object::symbol_record_at(h, j);
     let long = le::u32_at(f, at) == 0;
     if long {
-        let o = le::u32_at(f, at + 4);
+        let o = le::u32_at(f, at + object::LONG_OFFSET_AT);
         long_name(f, h, stops, false, o as usize)
     } else {
-        names::symbol_name(f, h, j)
+        field_name(f, at)
     }
 }
 

@@ -6,11 +6,13 @@ use mathlib.Core.Logic.{⊎-elim}
 use Prim.Native.Nat.{ℕ, zero, suc, _≤_, _%_, _^_}
 use native.Mathlib.Omega.{arith}
 use lib.Dec.{eqb, leb}
-use lib.ListN.{length}
+use lib.ListN.{length, replicate}
 use borrow.Author.Tests.{not-true, not-false, leb-true}
 use Rattle.limits.specs.Limits.{MAX-PAGES, MAX-EXTERNS}
 use Rattle.refusal.specs.Refusal.{PAGES, EXTERNS, TARGET, PLACE}
 use Rattle.util.specs.Pick.{pick, yes-no}
+use Rattle.le.specs.Le.{splice}
+use Rattle.codes.specs.Code.{codesTo}
 use Rattle.arch.specs.declared.Arch.{Arch}
 use Rattle.arch.specs.declared.Offset.{Offset}
 use Rattle.arch.specs.Machine.{archOf, archBy}
@@ -36,8 +38,8 @@ use Rattle.survey.specs.declared.answer.Survey.{Survey}
 use Rattle.survey.specs.declared.answer.Survey.the-variants.{Accepted, Refused}
 use Rattle.survey.specs.Survey.{Check, check, firstFailed, recordChecks, targetChecks, externChecks, tallyBy, countsBy, tally, checks, counts, answerBy, surveyOf}
 use Rattle.survey.specs.SurveyLaws.{Ordered, ordered, failed-first, records-rest, says-refused, fits-is}
-use Rattle.survey.specs.Surveying.{targetsAnswer, plannedBy, namesIn, answerIn, homeWords, startWords, codeWords}
-use Rattle.survey.specs.TableLaws.{answer-whole}
+use Rattle.survey.specs.Surveying.{targetsAnswer, plannedBy, namesIn, answerIn, codeRoom, homeWords, startWords, codeWords}
+use Rattle.survey.specs.TableLaws.{few-room, many-room, answer-whole}
 
 -- ---- the counts
 abbrev pub countsOf : Header → Tally → ℕ → ℕ → ℕ → ℕ → ℕ → Counts
@@ -147,8 +149,11 @@ module _ (f : List ℕ) (h : Header) (homes starts codes : List ℕ) (r : Names)
 pub ruleset extern-ways = (externs-over, externs-fit)
 
 -- ---- the arrays
-pub symbols-by : (f : List ℕ) (h : Header) (homes starts codes : List ℕ) (x : Survey) → codes ≡ codeWords f h → x ≡ answerIn f h homes starts codes → x ≡ answerIn f h homes starts (codeWords f h)
-symbols-by f h homes starts codes x e d = rw e at d
+pub symbols-by : (n : ℕ) (f : List ℕ) (h : Header) (homes starts codes : List ℕ) (x : Survey) → codes ≡ splice (replicate n 0) 0 (codesTo f h (h .symbols)) → n ≡ codeRoom h
+    → x ≡ answerIn f h homes starts codes → x ≡ answerIn f h homes starts (codeWords f h)
+symbols-by n f h homes starts codes x e q d = let c : codes ≡ codeWords f h = rw q at e in rw c at d
+
+pub ruleset arrays = (symbols-by, few-room, many-room)
 
 pub sections-by : (f : List ℕ) (h : Header) (homes starts : List ℕ) (x : Survey) → homes ≡ homeWords f h → starts ≡ startWords f h → x ≡ answerIn f h homes starts (codeWords f h)
     → x ≡ answerIn f h (homeWords f h) (startWords f h) (codeWords f h)

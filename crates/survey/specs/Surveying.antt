@@ -1,14 +1,16 @@
 -- What the parts of survey promise and ask.
 use mathlib.Core.List.{List, _∷_, _++_}
 use Prim.Native.Nat.{ℕ, _≤_}
+use lib.Dec.{leb}
 use lib.ListN.{length, replicate}
+use Rattle.util.specs.Pick.{pick}
 use Rattle.le.specs.Le.{splice}
 use Rattle.arch.specs.declared.Offset.{Offset}
 use Rattle.object.specs.declared.Header.{Header}
 use Rattle.layout.specs.Layout.{undefStart, mappedPages, startsTo}
 use Rattle.homes.specs.Home.{homesTo, homeIn}
 use Rattle.refusal.specs.Refusal.{PAGES}
-use Rattle.limits.specs.Limits.{MAX-SECTIONS, MAX-SYMBOLS, MAX-PAGES}
+use Rattle.limits.specs.Limits.{MAX-SECTIONS, MAX-SYMBOLS, FEW-SYMBOLS, MAX-PAGES}
 use Rattle.checks.specs.Checks.{pagesOk}
 use Rattle.codes.specs.Code.{codesTo, putsIn}
 use Rattle.externs.specs.Externs.{externsBy}
@@ -48,6 +50,10 @@ module _ (f : List ℕ) (h : Header) (homes starts codes : List ℕ) where
   abbrev pub answerIn : Survey
   answerIn = externsAnswer f h (homeIn homes) (targetIn homes starts (undefStart f h) (slotted f h namesIn codes)) (length namesIn)
 
+-- the room of the array for what the symbols come to
+unfoldable pub codeRoom : Header → ℕ
+codeRoom h = pick (leb (h .symbols) FEW-SYMBOLS) FEW-SYMBOLS MAX-SYMBOLS
+
 -- ---- those words, filled once
 module _ (f : List ℕ) (h : Header) where
   -- where the sections' homes start
@@ -60,4 +66,4 @@ module _ (f : List ℕ) (h : Header) where
 
   -- what the symbols come to
   abbrev pub codeWords : List ℕ
-  codeWords = splice (replicate MAX-SYMBOLS 0) 0 (codesTo f h (h .symbols))
+  codeWords = splice (replicate (codeRoom h) 0) 0 (codesTo f h (h .symbols))

@@ -6,9 +6,10 @@ use mathlib.Core.Logic.{⊎-elim}
 use Prim.Native.Nat.{ℕ, _+_, _%_, _^_, _≤_, _<_}
 use native.Mathlib.Omega.{arith}
 use lib.ListN.{length, getD, replicate, length-replicate, getD-replicate, List·getD-eq-default}
+use lib.Dec.{leb}
 use borrow.Author.Tests.{leb-true, le-leb, lt-leb}
-use Rattle.limits.specs.Limits.{MAX-SECTIONS, MAX-SYMBOLS, MAX-PAGES, MAX-EXTERNS}
-use Rattle.util.specs.Pick.{pick, le-or-lt}
+use Rattle.limits.specs.Limits.{MAX-SECTIONS, MAX-SYMBOLS, FEW-SYMBOLS, MAX-PAGES, MAX-EXTERNS}
+use Rattle.util.specs.Pick.{pick, yes-no, le-or-lt}
 use Rattle.util.specs.Prefix.{length-list, list-at, all-at}
 use Rattle.le.specs.Le.{splice, splice-above, part, filled}
 use Rattle.arch.specs.declared.Offset.{Offset}
@@ -34,7 +35,7 @@ use Rattle.targets.specs.Target.{targetOf, targets}
 use Rattle.targets.specs.declared.Target.{Target}
 use Rattle.targets.specs.Table.{targetIn, Coded, target-kept}
 use Rattle.survey.specs.Survey.{firstFailed, answerBy}
-use Rattle.survey.specs.Surveying.{Fits, externsAnswer, answerIn, homeWords, startWords, codeWords}
+use Rattle.survey.specs.Surveying.{Fits, externsAnswer, answerIn, codeRoom, homeWords, startWords, codeWords}
 
 zero-at : (size j : ℕ) → getD {A = ℕ} (replicate size 0) j 0 ≡ 0
 zero-at size j =
@@ -83,6 +84,15 @@ in-section kinds.Unknown Nowhere n e = absurd (let w : _≡_ {A = ℕ} 0 1 = cc 
 in-section kinds.Unknown Other n e = absurd (let w : _≡_ {A = ℕ} 0 1 = cc in omega arith)
 in-section kinds.File p n e = absurd (let w : _≡_ {A = ℕ} 0 1 = cc in omega arith)
 
+-- ---- the room for the codes, of few symbols and of many
+pub few-room : (h : Header) → h .symbols ≤ FEW-SYMBOLS → FEW-SYMBOLS ≡ codeRoom h
+unfolding codeRoom pick
+few-room h l = rw (le-leb (h .symbols) FEW-SYMBOLS l)
+
+pub many-room : (h : Header) → FEW-SYMBOLS < h .symbols → MAX-SYMBOLS ≡ codeRoom h
+unfolding codeRoom pick
+many-room h l = rw (lt-leb (h .symbols) FEW-SYMBOLS l)
+
 module _ (f : List ℕ) (h : Header) (fits : Fits f h) where
   -- the sections' homes and starts, and the symbols' codes
   pub homes-whole : homeIn (homeWords f h) ≡ sectionHome f h
@@ -104,9 +114,13 @@ module _ (f : List ℕ) (h : Header) (fits : Fits f h) where
       let s = fits .sections in
       filled (λ j. startAt f h j % 2 ^ 32) (startWords f h) (part (startWords f h) 0 (h .sections)) MAX-SECTIONS (h .sections) refl s refl
 
+  codes-room : h .symbols ≤ codeRoom h
+  unfolding codeRoom pick
+  codes-room = ⊎-elim (λ t. rw t (leb-true (h .symbols) FEW-SYMBOLS t)) (λ t. rw t (fits .symbols)) (yes-no (leb (h .symbols) FEW-SYMBOLS))
+
   -- the kept codes are those of the records
   pub codes-whole : CodesKept f h (codeWords f h)
-  codes-whole = filled-kept f h (codeWords f h) MAX-SYMBOLS (fits .symbols) refl
+  codes-whole = filled-kept f h (codeWords f h) (codeRoom h) codes-room refl
 
   -- so the extern names are the file's
   pub names-whole : externsBy f h (putsIn (codeWords f h)) ≡ externs f h

@@ -8,8 +8,8 @@ use externs::Names;
 use fixups::Tally;
 use object::Header;
 ghost use mathlib.Core.Path.{_≡_};
-ghost use Prim.Native.Nat.{_≤_};
-ghost use Rattle.limits.specs.Limits.{MAX-PAGES};
+ghost use Prim.Native.Nat.{_≤_, _<_};
+ghost use Rattle.limits.specs.Limits.{FEW-SYMBOLS, MAX-PAGES};
 ghost use Rattle.layout.specs.Layout.{undefStart, mappedPages};
 ghost use Rattle.homes.specs.Home.{homeIn};
 ghost use Rattle.targets.specs.Table.{targetIn};
@@ -141,14 +141,35 @@ fn survey_externs(f: &[u8], h: Header, homes: &[u32], starts: &[u32], codes: &mu
     }
 }
 
-// What each symbol record comes to, found once.
-fn survey_symbols(f: &[u8], h: Header, homes: &[u32], starts: &[u32]) -> Survey
-    requires { ⌜ mappedPages (now f) h ≤ MAX-PAGES ⌝ }
+// What each symbol record comes to, found once: of few records in a small array.
+fn survey_few(f: &[u8], h: Header, homes: &[u32], starts: &[u32]) -> Survey
+    requires { ⌜ (mappedPages (now f) h ≤ MAX-PAGES) × (h .symbols ≤ FEW-SYMBOLS) ⌝ }
+    ensures { λ r. ⌜ r ≡ answerIn (now (f .entry)) h (now (homes .entry)) (now (starts .entry)) (codeWords (now (f .entry)) h) ⌝ }
+{
+    let mut codes = [0u16; limits::FEW_SYMBOLS];
+    codes::fill_codes(f, h, &mut codes);
+    survey_externs(f, h, homes, starts, &mut codes)
+}
+
+// Of more in a large one.
+fn survey_many(f: &[u8], h: Header, homes: &[u32], starts: &[u32]) -> Survey
+    requires { ⌜ (mappedPages (now f) h ≤ MAX-PAGES) × (FEW-SYMBOLS < h .symbols) ⌝ }
     ensures { λ r. ⌜ r ≡ answerIn (now (f .entry)) h (now (homes .entry)) (now (starts .entry)) (codeWords (now (f .entry)) h) ⌝ }
 {
     let mut codes = [0u16; limits::MAX_SYMBOLS];
     codes::fill_codes(f, h, &mut codes);
     survey_externs(f, h, homes, starts, &mut codes)
+}
+
+fn survey_symbols(f: &[u8], h: Header, homes: &[u32], starts: &[u32]) -> Survey
+    requires { ⌜ mappedPages (now f) h ≤ MAX-PAGES ⌝ }
+    ensures { λ r. ⌜ r ≡ answerIn (now (f .entry)) h (now (homes .entry)) (now (starts .entry)) (codeWords (now (f .entry)) h) ⌝ }
+{
+    if h.symbols as usize <= limits::FEW_SYMBOLS {
+        survey_few(f, h, homes, starts)
+    } else {
+        survey_many(f, h, homes, starts)
+    }
 }
 
 // Each section's home and start, found once.

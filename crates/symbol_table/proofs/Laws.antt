@@ -6,7 +6,7 @@ use Prim.Native.Nat.{ℕ, _+_, _*_, _%_, _^_, _≤_}
 use native.Mathlib.Omega.{arith}
 use lib.Dec.{eqb}
 use lib.ListN.{length, getD}
-use Rattle.limits.specs.Limits.{SYMBOL-BYTES}
+use Rattle.limits.specs.Records.{SYMBOL-BYTES}
 use Rattle.arch.specs.declared.RVA.{RVA}
 use Rattle.arch.specs.declared.Offset.{Offset}
 use Rattle.arch.specs.Address.{rva}
@@ -19,27 +19,27 @@ use Rattle.object.specs.Symbol.{symbolOf, kindOf, placeOf, listedOf, kind, symb
 use Rattle.object.specs.SymbolLaws.{left-none, left-past}
 use Rattle.kinds.specs.Symbol.{kindNumber}
 use Rattle.names.specs.declared.Name.{Name}
-use Rattle.names.specs.Name.{symbolName}
+use Rattle.names.specs.Name.{symbolName, nameStart, nameLength}
 use Rattle.stops.specs.Stops.{stopsOf}
 use Rattle.stops.specs.Names.{symbolNameBy}
 use Rattle.stops.specs.NameLaws.{symbol-name-is}
 use Rattle.homes.specs.Listed.{ofPlace, placeHome, isSome, listed, offsetFrom, listedOffset, listed-is}
-use Rattle.words.specs.Words.{wordBytes, nameStart, nameLength, word-low}
+use Rattle.words.specs.Words.{wordBytes, word-low}
 use Rattle.words.specs.Picked.{picked, Standing, picked-none, picked-more, picked-same, standing-long}
 use Rattle.symbol_table.specs.Symbols.{symbolWords, symbolTable}
 
 -- a symbol's record from what was read of it
-pub symbol-put : (f : List ℕ) (h : Header) (base : ℕ) (home : ℕ → Offset) (records stops b c : List ℕ) (s : Symbol) (j k x kn ns nl rec : ℕ) (at : RVA) (name : Name) (sk : SymbolKind) (p : Place)
-    → c ≡ splice b k (wordBytes (x ∷ kn ∷ ns ∷ nl ∷ j ∷ rec ∷ [])) → x ≡ (base + at .0) % 2 ^ 64 → at ≡ rva (offsetFrom (placeHome home (placeOf s)) (listedOf s)) → kn ≡ kindNumber sk → sk ≡ kindOf s
+pub symbol-put : (f : List ℕ) (h : Header) (base : ℕ) (home : ℕ → Offset) (records stops b c : List ℕ) (s : Symbol) (j k x v kn ns nl rec : ℕ) (at : RVA) (name : Name) (sk : SymbolKind) (p : Place)
+    → c ≡ splice b k (wordBytes (x ∷ kn ∷ ns ∷ nl ∷ j ∷ rec ∷ [])) → x ≡ (base + at .0) % 2 ^ 64 → at ≡ rva (offsetFrom (placeHome home p) v) → v ≡ listedOf s → kn ≡ kindNumber sk → sk ≡ kindOf s
     → ns ≡ nameStart name → nl ≡ nameLength name → name ≡ symbolNameBy f h stops j → stops ≡ stopsOf f h → rec ≡ ofPlace (λ i. getD records i 0) 0 p → p ≡ placeOf s → s ≡ symbolOf f h j
     → c ≡ splice b k (wordBytes (symbolWords f h base home records j))
 unfolding symbolWords
-symbol-put f h base home records stops b c s j k x kn ns nl rec at name sk p d lo e1 e2 e3 e4 e5 e w e7 e8 is =
+symbol-put f h base home records stops b c s j k x v kn ns nl rec at name sk p d lo e1 e0 e2 e3 e4 e5 e w e7 e8 is =
     let e6 : name ≡ symbolName f h j = e ∙ symbol-name-is f h stops w j in
-    let z : at .0 ≡ listedOffset f h home j = ap (λ (o : RVA). o .0) (rw is at e1) in
+    let z : at .0 ≡ listedOffset f h home j = ap (λ (o : RVA). o .0) (rw (e8, e0, is) at e1) in
     let y : sk ≡ kind f h j = rw is at e3 in
-    let v : p ≡ symbolPlace f h j = rw is at e8 in
-    rw (← z, ← y, ← e2, ← e6, ← e4, ← e5, ← v, ← e7) (d ∙ ap (splice b k) (rw lo (word-low (base + at .0) (kn ∷ ns ∷ nl ∷ j ∷ rec ∷ []))))
+    let q : p ≡ symbolPlace f h j = rw is at e8 in
+    rw (← z, ← y, ← e2, ← e6, ← e4, ← e5, ← q, ← e7) (d ∙ ap (splice b k) (rw lo (word-low (base + at .0) (kn ∷ ns ∷ nl ∷ j ∷ rec ∷ []))))
 
 symbol-long : (f : List ℕ) (h : Header) (base : ℕ) (home : ℕ → Offset) (records : List ℕ) (j : ℕ) → 8 * length (symbolWords f h base home records j) ≡ SYMBOL-BYTES
 unfolding symbolWords
@@ -53,14 +53,14 @@ module _ (f : List ℕ) (h : Header) (base : ℕ) (home : ℕ → Offset) (recor
   pub symbols-none : (l : List ℕ) → Written l l 0 0
   symbols-none l = picked-none (listed f h home) (symbolWords f h base home records) SYMBOL-BYTES l
 
-  module _ (l b : List ℕ) (n j left : ℕ) (s : Symbol) (t : Bool) where
-    pub symbols-more : (c : List ℕ) → Written l b n j → t ≡ (eqb left 0 && isSome (placeHome home (placeOf s))) → left ≡ auxiliariesLeft f h j → s ≡ symbolOf f h j → t ≡ true
+  module _ (l b : List ℕ) (n j left : ℕ) (s : Symbol) (p : Place) (t : Bool) where
+    pub symbols-more : (c : List ℕ) → Written l b n j → t ≡ (eqb left 0 && isSome (placeHome home p)) → left ≡ auxiliariesLeft f h j → p ≡ placeOf s → s ≡ symbolOf f h j → t ≡ true
         → c ≡ splice b (SYMBOL-BYTES * n) (wordBytes (symbolWords f h base home records j)) → Written l c (n + 1) (j + 1)
-    symbols-more c o e a q y d =
-        picked-more (listed f h home) (symbolWords f h base home records) SYMBOL-BYTES j n l b t (listed-is f h home j left s e a q) o (symbol-long f h base home records j) c y d
+    symbols-more c o e a w q y d =
+        picked-more (listed f h home) (symbolWords f h base home records) SYMBOL-BYTES j n l b t (listed-is f h home j left s p e a w q) o (symbol-long f h base home records j) c y d
 
-    pub symbols-same : Written l b n j → t ≡ (eqb left 0 && isSome (placeHome home (placeOf s))) → left ≡ auxiliariesLeft f h j → s ≡ symbolOf f h j → t ≡ false → Written l b n (j + 1)
-    symbols-same o e a q y = picked-same (listed f h home) (symbolWords f h base home records) SYMBOL-BYTES j n l b t (listed-is f h home j left s e a q) o y
+    pub symbols-same : Written l b n j → t ≡ (eqb left 0 && isSome (placeHome home p)) → left ≡ auxiliariesLeft f h j → p ≡ placeOf s → s ≡ symbolOf f h j → t ≡ false → Written l b n (j + 1)
+    symbols-same o e a w q y = picked-same (listed f h home) (symbolWords f h base home records) SYMBOL-BYTES j n l b t (listed-is f h home j left s p e a w q) o y
 
   pub symbols-end : (l b : List ℕ) (j n m : ℕ) → Written l b n j → j ≤ m → m ≤ j → m ≡ h .symbols → b ≡ splice l 0 (symbolTable f h base home records)
   symbols-end l b j n m o a k z =

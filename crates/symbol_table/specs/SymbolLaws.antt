@@ -4,20 +4,19 @@ use mathlib.Core.Bool.{true}
 use mathlib.Core.List.{List}
 use Prim.Native.Nat.{ℕ, _+_, _*_, _%_, _^_, _≤_, _<_}
 use native.Mathlib.Omega.{arith}
-use native.Mathlib.Nat.{add-zero}
 use lib.ListN.{length, getD}
 use Rattle.util.specs.Prefix.{countTo}
-use Rattle.le.specs.Le.{get, splice}
+use Rattle.le.specs.Le.{splice}
 use Rattle.arch.specs.declared.Offset.{Offset}
 use Rattle.object.specs.declared.Header.{Header}
 use Rattle.object.specs.Symbol.{kind, symbolPlace}
 use Rattle.kinds.specs.Symbol.{kindNumber}
-use Rattle.names.specs.Name.{symbolName}
+use Rattle.names.specs.Name.{symbolName, nameStart, nameLength}
 use Rattle.homes.specs.Listed.{ofPlace, listed, listedOffset, listedTotal}
-use Rattle.words.specs.Words.{wordBytes, wordOf, nameStart, nameLength, length-words}
+use Rattle.words.specs.Words.{wordBytes, wordOf, length-words}
 use Rattle.words.specs.Rows.{rowWords, length-rows, row-back}
 use Rattle.words.specs.Picked.{chosen, length-chosen, count-below, chosen-at, picked-rows}
-use Rattle.limits.specs.Limits.{SYMBOL-BYTES}
+use Rattle.limits.specs.Records.{SYMBOL-WORDS, SYMBOL-BYTES, ADDRESS, NAME-START, NAME-LENGTH, SYMBOL-KIND, SYMBOL-NUMBER, SYMBOL-HOME}
 use Rattle.symbol_table.specs.Symbols.{symbolWords, symbolTable}
 
 -- the listed symbols below j, in file order
@@ -28,7 +27,7 @@ pub symbols-counted : (f : List ℕ) (h : Header) (home : ℕ → Offset) → le
 symbols-counted f h home = length-chosen (listed f h home) (h .symbols)
 
 module _ (f : List ℕ) (h : Header) (base : ℕ) (home : ℕ → Offset) (records : List ℕ) where
-  length-symbol : (j : ℕ) → length (symbolWords f h base home records j) ≡ 6
+  length-symbol : (j : ℕ) → length (symbolWords f h base home records j) ≡ SYMBOL-WORDS
   unfolding symbolWords
   length-symbol j = refl
 
@@ -37,60 +36,49 @@ module _ (f : List ℕ) (h : Header) (base : ℕ) (home : ℕ → Offset) (recor
 
   pub length-symbols : length (symbolTable f h base home records) ≡ SYMBOL-BYTES * length (listedTo f h home (h .symbols))
   length-symbols =
-      let l = length-rows (symbolWords f h base home records) 6 length-symbol (listedTo f h home (h .symbols)) in
+      let l = length-rows (symbolWords f h base home records) SYMBOL-WORDS length-symbol (listedTo f h home (h .symbols)) in
       rw symbol-words (length-words (rowWords (symbolWords f h base home records) (listedTo f h home (h .symbols))) ∙ (omega arith))
 
   pub symbols-fill : length (symbolTable f h base home records) ≡ SYMBOL-BYTES * listedTotal f h home
   symbols-fill = length-symbols ∙ ap (λ (m : ℕ). SYMBOL-BYTES * m) (symbols-counted f h home)
 
-  module _ (b : List ℕ) (r : SYMBOL-BYTES * length (listedTo f h home (h .symbols)) ≤ length b) (w : ℕ) (q : w < 6) where
+  module _ (b : List ℕ) (r : SYMBOL-BYTES * length (listedTo f h home (h .symbols)) ≤ length b) (w : ℕ) (q : w < SYMBOL-WORDS) where
     -- word w of record k
     pub symbol-back : (k d : ℕ) → k < length (listedTo f h home (h .symbols))
-        → get 8 (splice b 0 (symbolTable f h base home records)) (SYMBOL-BYTES * k + 8 * w)
+        → wordOf SYMBOL-WORDS (splice b 0 (symbolTable f h base home records)) k w
         ≡ getD (symbolWords f h base home records (getD (listedTo f h home (h .symbols)) k d)) w 0 % 2 ^ 64
     symbol-back k d t =
-        let e : SYMBOL-BYTES * k + 8 * w ≡ 8 * (6 * k + w) = omega arith in
-        rw (symbol-words, e) (row-back (symbolWords f h base home records) 6 length-symbol (listedTo f h home (h .symbols)) b k w d (omega arith) t q)
+        rw symbol-words (row-back (symbolWords f h base home records) SYMBOL-WORDS length-symbol (listedTo f h home (h .symbols)) b k w d (omega arith) t q)
 
     -- and of the record of symbol j, which stands behind those of the listed symbols before it
     pub symbol-record : (j : ℕ) → j < h .symbols → listed f h home j ≡ true
-        → get 8 (splice b 0 (symbolTable f h base home records)) (SYMBOL-BYTES * countTo (listed f h home) j + 8 * w)
+        → wordOf SYMBOL-WORDS (splice b 0 (symbolTable f h base home records)) (countTo (listed f h home) j) w
         ≡ getD (symbolWords f h base home records j) w 0 % 2 ^ 64
     symbol-record j n t =
         symbol-back (countTo (listed f h home) j) 0
         (rw (length-chosen (listed f h home) (h .symbols)) (count-below (listed f h home) (h .symbols) j n t))
         ∙ ap (λ (x : ℕ). getD (symbolWords f h base home records x) w 0 % 2 ^ 64) (chosen-at (listed f h home) (h .symbols) j 0 n t)
 
--- ---- a record by the names of its words: what is read in t from `at` on
-pub record SymbolAt (t : List ℕ) (at : ℕ) (f : List ℕ) (h : Header) (base : ℕ) (home : ℕ → Offset) (records : List ℕ) (j : ℕ) : Type 0 where
-  pub address : get 8 t at ≡ (base + listedOffset f h home j) % 2 ^ 64
-  pub kindOf : get 8 t (at + 8) ≡ kindNumber (kind f h j) % 2 ^ 64
-  pub nameFrom : get 8 t (at + 16) ≡ nameStart (symbolName f h j) % 2 ^ 64
-  pub nameLong : get 8 t (at + 24) ≡ nameLength (symbolName f h j) % 2 ^ 64
-  pub number : get 8 t (at + 32) ≡ j % 2 ^ 64
-  pub homeRecord : get 8 t (at + 40) ≡ ofPlace (λ i. getD records i 0) 0 (symbolPlace f h j) % 2 ^ 64
+-- ---- a record by the names of its words: what record r of t has
+pub record SymbolAt (t : List ℕ) (r : ℕ) (f : List ℕ) (h : Header) (base : ℕ) (home : ℕ → Offset) (records : List ℕ) (j : ℕ) : Type 0 where
+  pub address : wordOf SYMBOL-WORDS t r ADDRESS ≡ (base + listedOffset f h home j) % 2 ^ 64
+  pub kindOf : wordOf SYMBOL-WORDS t r SYMBOL-KIND ≡ kindNumber (kind f h j) % 2 ^ 64
+  pub nameFrom : wordOf SYMBOL-WORDS t r NAME-START ≡ nameStart (symbolName f h j) % 2 ^ 64
+  pub nameLong : wordOf SYMBOL-WORDS t r NAME-LENGTH ≡ nameLength (symbolName f h j) % 2 ^ 64
+  pub number : wordOf SYMBOL-WORDS t r SYMBOL-NUMBER ≡ j % 2 ^ 64
+  pub homeRecord : wordOf SYMBOL-WORDS t r SYMBOL-HOME ≡ ofPlace (λ i. getD records i 0) 0 (symbolPlace f h j) % 2 ^ 64
 
 pub symbol-read : (f : List ℕ) (h : Header) (base : ℕ) (home : ℕ → Offset) (records b : List ℕ) (j : ℕ) → SYMBOL-BYTES * listedTotal f h home ≤ length b
     → j < h .symbols → listed f h home j ≡ true
-    → SymbolAt (splice b 0 (symbolTable f h base home records)) (SYMBOL-BYTES * countTo (listed f h home) j) f h base home records j
+    → SymbolAt (splice b 0 (symbolTable f h base home records)) (countTo (listed f h home) j) f h base home records j
 unfolding symbolWords
 symbol-read f h base home records b j r n t =
     let room : SYMBOL-BYTES * length (listedTo f h home (h .symbols)) ≤ length b = rw (symbols-counted f h home) r in
     record {
-      address = rw add-zero at (symbol-record f h base home records b room 0 (omega arith) j n t);
-      kindOf = symbol-record f h base home records b room 1 (omega arith) j n t;
-      nameFrom = symbol-record f h base home records b room 2 (omega arith) j n t;
-      nameLong = symbol-record f h base home records b room 3 (omega arith) j n t;
-      number = symbol-record f h base home records b room 4 (omega arith) j n t;
-      homeRecord = symbol-record f h base home records b room 5 (omega arith) j n t;
+      address = symbol-record f h base home records b room ADDRESS (omega arith) j n t;
+      kindOf = symbol-record f h base home records b room SYMBOL-KIND (omega arith) j n t;
+      nameFrom = symbol-record f h base home records b room NAME-START (omega arith) j n t;
+      nameLong = symbol-record f h base home records b room NAME-LENGTH (omega arith) j n t;
+      number = symbol-record f h base home records b room SYMBOL-NUMBER (omega arith) j n t;
+      homeRecord = symbol-record f h base home records b room SYMBOL-HOME (omega arith) j n t;
     }
-
--- what the questions to the table read is what load wrote
-module _ (f : List ℕ) (h : Header) (base : ℕ) where
-  -- the record of symbol j, behind those of the listed symbols before it
-  pub symbol-of-load : (home : ℕ → Offset) (records b : List ℕ) → SYMBOL-BYTES * listedTotal f h home ≤ length b → (w : ℕ) → w < 6 → (j : ℕ) → j < h .symbols → listed f h home j ≡ true
-      → wordOf 6 (splice b 0 (symbolTable f h base home records)) (countTo (listed f h home) j) w ≡ getD (symbolWords f h base home records j) w 0 % 2 ^ 64
-  unfolding wordOf
-  symbol-of-load home records b r w q j n t =
-      let e : 8 * (6 * countTo (listed f h home) j + w) ≡ SYMBOL-BYTES * countTo (listed f h home) j + 8 * w = omega arith in
-      rw e (symbol-record f h base home records b (rw (symbols-counted f h home) r) w q j n t)

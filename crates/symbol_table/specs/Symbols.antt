@@ -7,9 +7,8 @@ use Rattle.arch.specs.declared.Offset.{Offset}
 use Rattle.object.specs.declared.Header.{Header}
 use Rattle.object.specs.Symbol.{kind, symbolPlace}
 use Rattle.kinds.specs.Symbol.{kindNumber}
-use Rattle.names.specs.Name.{symbolName}
+use Rattle.names.specs.Name.{symbolName, nameStart, nameLength}
 use Rattle.homes.specs.Listed.{ofPlace, listed, listedOffset}
-use Rattle.words.specs.Words.{nameStart, nameLength}
 use Rattle.words.specs.Picked.{picked}
 
 -- a record is six words: address, kind, name start, name length, symbol number, home. The home of a symbol is its section's record in the section table

@@ -1,18 +1,19 @@
 // The symbol table that load writes, as bytes: records of whole words. The crate `homes` says which symbols are listed, and where.
 use arch::VA;
+use kinds::Place;
 use object::Header;
 use object::Symbol;
 ghost use mathlib.Core.Path.{_≡_};
 ghost use Prim.Native.Nat.{_*_};
-ghost use Rattle.limits.specs.Limits.{SYMBOL-BYTES};
+ghost use Rattle.limits.specs.Records.{SYMBOL-BYTES};
 ghost use Rattle.le.specs.Le.{splice};
-ghost use Rattle.object.specs.Symbol.{symbolOf};
+ghost use Rattle.object.specs.Symbol.{symbolOf, placeOf};
 ghost use Rattle.stops.specs.Stops.{stopsOf};
 ghost use Rattle.homes.specs.Home.{homeIn};
 ghost use Rattle.words.specs.Words.{wordBytes};
 ghost use Rattle.symbol_table.specs.Symbols.{symbolWords, symbolTable};
 
-// The record of symbol j, whose record in the file is s, at place n of the table.
+// The record of symbol j, whose record in the file is s and says the place p, at place n of the table.
 fn put_symbol(
     f: &[u8],
     h: Header,
@@ -21,23 +22,24 @@ fn put_symbol(
     records: &[u32],
     stops: &[u32],
     s: Symbol,
+    p: Place,
     j: u32,
     n: u32,
     b: &mut [u8],
 )
-    requires { ⌜ (now stops ≡ stopsOf (now f) h) × (s ≡ symbolOf (now f) h j) ⌝ }
+    requires { ⌜ (now stops ≡ stopsOf (now f) h) × (s ≡ symbolOf (now f) h j) × (p ≡ placeOf s) ⌝ }
     ensures { λ _. ⌜ now (b .exit) ≡ splice (now (b .entry)) (SYMBOL-BYTES * n) (wordBytes (symbolWords (now (f .entry)) h (base .0) (homeIn (now (homes .entry))) (now (records .entry)) j)) ⌝ }
 {
-    let offset = homes::listed_offset(homes, s);
+    let offset = homes::listed_offset(homes, p, object::listed_of(s));
     let address = std::num::wrapping_add_u64(base.0, offset.0);
     let name = stops::symbol_name(f, h, stops, j);
     let kind = kinds::kind_number(object::kind_of(s));
-    let home = homes::record_of_place(records, object::place_of(s));
+    let home = homes::record_of_place(records, p);
     let ws = [
         address,
         kind,
-        words::name_start(name),
-        words::name_length(name),
+        names::name_start(name),
+        names::name_length(name),
         j as u64,
         home as u64,
     ];
@@ -63,10 +65,11 @@ fn write_listed(
     let mut j: u32 = 0;
     while j < m {
         let s = object::read_symbol(f, h, j);
-        let found = homes::is_listed(homes, left, s);
+        let p = object::place_of(s);
+        let found = homes::is_listed(homes, left, p);
         left = object::left_by(left, s.auxiliaries);
         if found {
-            put_symbol(f, h, base, homes, records, stops, s, j, n, b);
+            put_symbol(f, h, base, homes, records, stops, s, p, j, n, b);
             n += 1;
             j += 1;
         } else {

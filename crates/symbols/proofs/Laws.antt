@@ -7,6 +7,7 @@ use native.Mathlib.Nat.{mul-le-mul-left}
 use native.Mathlib.Omega.{arith}
 use borrow.Author.Tests.{lt-ltb, le-ltb}
 use lib.Dec.{eqb}
+use Rattle.limits.specs.Records.{WORD, SYMBOL-WORDS, EXTERN-WORDS, ADDRESS, NAME-START, NAME-LENGTH, SYMBOL-KIND, SYMBOL-NUMBER, SYMBOL-HOME, EXTERN-NUMBER}
 use Rattle.util.specs.Pick.{pick}
 use Rattle.le.specs.Le.{get, part, part-none}
 use Rattle.names.specs.Bytes.{sameBytes}
@@ -15,21 +16,12 @@ use Rattle.arch.specs.Address.{va}
 use Rattle.refusal.specs.Refusal.{NO-ENTRY}
 use Rattle.refusal.specs.declared.Number.{Number}
 use Rattle.refusal.specs.declared.Number.the-variants.{Value, Refusal}
-use Rattle.words.specs.Words.{WORD, wordOf}
+use Rattle.words.specs.Words.{wordOf}
 use Rattle.symbols.specs.declared.Symbol.{Symbol}
 use Rattle.symbols.specs.declared.SymbolAnswer.the-variants as S
 use Rattle.symbols.specs.declared.Extern.{Extern}
 use Rattle.symbols.specs.declared.ExternAnswer.the-variants as E
 use Rattle.symbols.specs.Symbol.{
-  SYMBOL-WORDS,
-  EXTERN-WORDS,
-  ADDRESS,
-  KIND,
-  NAME-START,
-  NAME-LENGTH,
-  NUMBER,
-  HOME,
-  EXTERN-NUMBER,
   symbolCount,
   externCount,
   symbolRecord,
@@ -63,7 +55,7 @@ module _ (table : List ℕ) (k : ℕ) where
   abbrev name : ℕ → ℕ
   name = wordOf EXTERN-WORDS table k
 
-  pub symbol-record-is : (a b c d e f : ℕ) → a ≡ symbol ADDRESS → b ≡ symbol KIND → c ≡ symbol NAME-START → d ≡ symbol NAME-LENGTH → e ≡ symbol NUMBER → f ≡ symbol HOME
+  pub symbol-record-is : (a b c d e f : ℕ) → a ≡ symbol ADDRESS → b ≡ symbol SYMBOL-KIND → c ≡ symbol NAME-START → d ≡ symbol NAME-LENGTH → e ≡ symbol SYMBOL-NUMBER → f ≡ symbol SYMBOL-HOME
       → _≡_ {A = Symbol} (record { address = va a; kind = b; «name_start» = c; «name_length» = d; number = e; home = f }) (symbolRecord table k)
   symbol-record-is a b c d e f p q r s t u = rw (p, q, r, s, t, u)
 

@@ -18,47 +18,10 @@ use Rattle.symbols.specs.declared.Extern.{Extern}
 use Rattle.symbols.specs.declared.ExternAnswer.{ExternAnswer}
 use Rattle.symbols.specs.declared.ExternAnswer.the-variants as E
 use Rattle.refusal.specs.Refusal.{NO-ENTRY}
-use Rattle.words.specs.Words.{WORD, wordOf}
-use Rattle.limits.specs.Limits.{SYMBOL-BYTES, EXTERN-BYTES}
+use Rattle.words.specs.Words.{wordOf}
+use Rattle.limits.specs.Records.{SYMBOL-WORDS, SYMBOL-BYTES, EXTERN-WORDS, EXTERN-BYTES, ADDRESS, NAME-START, NAME-LENGTH, SYMBOL-KIND, SYMBOL-NUMBER, SYMBOL-HOME, EXTERN-NUMBER}
 
 -- ---- the tables
--- how many words a record of the symbol table has
-abbrev pub SYMBOL-WORDS : ℕ
-SYMBOL-WORDS = SYMBOL-BYTES / WORD
-
--- and one of the extern table
-abbrev pub EXTERN-WORDS : ℕ
-EXTERN-WORDS = EXTERN-BYTES / WORD
-
--- ---- where each word stands, from 0 (docs/HOST.md); name and address alike in both tables
--- the symbol's address, or the slot's
-abbrev pub ADDRESS : ℕ
-ADDRESS = 0
-
--- the number of the symbol's kind
-abbrev pub KIND : ℕ
-KIND = 1
-
--- where its name starts in the file
-abbrev pub NAME-START : ℕ
-NAME-START = 2
-
--- how many bytes that has
-abbrev pub NAME-LENGTH : ℕ
-NAME-LENGTH = 3
-
--- the number of the symbol's record in the file
-abbrev pub NUMBER : ℕ
-NUMBER = 4
-
--- the number of its home's record in the section table
-abbrev pub HOME : ℕ
-HOME = 5
-
--- in the extern table: the lowest number of a symbol that put the name there
-abbrev pub EXTERN-NUMBER : ℕ
-EXTERN-NUMBER = 1
-
 -- the whole records of a symbol table; what is left behind them is none
 abbrev pub symbolCount : List ℕ → ℕ
 symbolCount table = length table / SYMBOL-BYTES
@@ -72,11 +35,11 @@ externCount table = length table / EXTERN-BYTES
 abbrev pub symbolRecord : List ℕ → ℕ → Symbol
 symbolRecord table k = record {
   address = va (wordOf SYMBOL-WORDS table k ADDRESS);
-  kind = wordOf SYMBOL-WORDS table k KIND;
+  kind = wordOf SYMBOL-WORDS table k SYMBOL-KIND;
   «name_start» = wordOf SYMBOL-WORDS table k NAME-START;
   «name_length» = wordOf SYMBOL-WORDS table k NAME-LENGTH;
-  number = wordOf SYMBOL-WORDS table k NUMBER;
-  home = wordOf SYMBOL-WORDS table k HOME;
+  number = wordOf SYMBOL-WORDS table k SYMBOL-NUMBER;
+  home = wordOf SYMBOL-WORDS table k SYMBOL-HOME;
 }
 
 -- of the extern names

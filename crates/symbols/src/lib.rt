@@ -1,12 +1,9 @@
 // Questions to the tables of symbols and of extern names that load wrote. Numbers are those of the records, from 0.
 ghost use mathlib.Core.Path.{_≡_};
 ghost use Prim.Native.Nat.{_+_, _*_, _≤_, _<_, _^_};
-ghost use Rattle.limits.specs.Limits.{SYMBOL-BYTES, EXTERN-BYTES};
-ghost use Rattle.words.specs.Words.{WORD, wordOf};
+ghost use Rattle.limits.specs.Records.{SYMBOL-BYTES, EXTERN-BYTES, WORD, SYMBOL-WORDS, EXTERN-WORDS, NAME-LENGTH};
+ghost use Rattle.words.specs.Words.{wordOf};
 ghost use Rattle.symbols.specs.Symbol.{
-  SYMBOL-WORDS,
-  EXTERN-WORDS,
-  NAME-LENGTH,
   symbolCount,
   externCount,
   nameOf,
@@ -22,6 +19,18 @@ ghost use Rattle.symbols.specs.Symbol.{
   externNamed,
 };
 use arch::VA;
+use limits::ADDRESS;
+use limits::EXTERN_BYTES;
+use limits::EXTERN_NUMBER;
+use limits::EXTERN_WORDS;
+use limits::NAME_LENGTH;
+use limits::NAME_START;
+use limits::SYMBOL_BYTES;
+use limits::SYMBOL_HOME;
+use limits::SYMBOL_KIND;
+use limits::SYMBOL_NUMBER;
+use limits::SYMBOL_WORDS;
+use limits::WORD;
 use refusal::NO_ENTRY;
 use refusal::Number;
 
@@ -55,32 +64,12 @@ pub enum ExternAnswer {
     Refused(u64),
 }
 
-// How many words a record has.
-const SYMBOL_WORDS: u8 = 6;
-
-const EXTERN_WORDS: u8 = 4;
-
-// Where each stands; address and name stand alike in both tables.
-const ADDRESS: u8 = 0;
-
-const KIND: u8 = 1;
-
-const NAME_START: u8 = 2;
-
-const NAME_LENGTH: u8 = 3;
-
-const NUMBER: u8 = 4;
-
-const HOME: u8 = 5;
-
-const EXTERN_NUMBER: u8 = 1;
-
 // Word w of record k, where a record has `width` words.
 fn word(table: &[u8], width: u8, k: usize, w: u8) -> u64
     requires { ⌜ WORD * (width * k + w) < 2 ^ 64 ⌝ }
     ensures { λ x. ⌜ x ≡ wordOf width (now (table .entry)) k w ⌝ }
 {
-    le::u64_at(table, words::WORD * (width as usize * k + w as usize))
+    le::u64_at(table, WORD * (width as usize * k + w as usize))
 }
 
 // The name of record k of n, as that part of the file; none at n or above.
@@ -124,7 +113,7 @@ fn last_named(file: &[u8], table: &[u8], name: &[u8], width: u8, n: usize) -> Nu
 pub fn symbol_count(table: &[u8]) -> usize
     ensures { λ r. ⌜ r ≡ symbolCount (now (table .entry)) ⌝ }
 {
-    table.len() / limits::SYMBOL_BYTES
+    table.len() / SYMBOL_BYTES
 }
 
 fn symbol_record(table: &[u8], k: usize) -> Symbol
@@ -133,11 +122,11 @@ fn symbol_record(table: &[u8], k: usize) -> Symbol
 {
     Symbol {
         address: VA(word(table, SYMBOL_WORDS, k, ADDRESS)),
-        kind: word(table, SYMBOL_WORDS, k, KIND),
+        kind: word(table, SYMBOL_WORDS, k, SYMBOL_KIND),
         name_start: word(table, SYMBOL_WORDS, k, NAME_START),
         name_length: word(table, SYMBOL_WORDS, k, NAME_LENGTH),
-        number: word(table, SYMBOL_WORDS, k, NUMBER),
-        home: word(table, SYMBOL_WORDS, k, HOME),
+        number: word(table, SYMBOL_WORDS, k, SYMBOL_NUMBER),
+        home: word(table, SYMBOL_WORDS, k, SYMBOL_HOME),
     }
 }
 
@@ -145,7 +134,7 @@ fn symbol_record(table: &[u8], k: usize) -> Symbol
 pub fn symbol_entry(table: &[u8], k: usize) -> SymbolAnswer
     ensures { λ r. ⌜ r ≡ symbolEntry (now (table .entry)) k ⌝ }
 {
-    if k < table.len() / limits::SYMBOL_BYTES {
+    if k < table.len() / SYMBOL_BYTES {
         SymbolAnswer::Entry(symbol_record(table, k))
     } else {
         SymbolAnswer::Refused(NO_ENTRY)
@@ -156,26 +145,14 @@ pub fn symbol_entry(table: &[u8], k: usize) -> SymbolAnswer
 pub fn symbol_name_of<'a>(file: &'a [u8], table: &[u8], k: usize) -> &'a [u8]
     ensures { λ r. ⌜ now r ≡ nameOf SYMBOL-WORDS (symbolCount (now (table .entry))) (now (file .entry)) (now (table .entry)) k ⌝ }
 {
-    name_of(
-        file,
-        table,
-        SYMBOL_WORDS,
-        table.len() / limits::SYMBOL_BYTES,
-        k,
-    )
+    name_of(file, table, SYMBOL_WORDS, table.len() / SYMBOL_BYTES, k)
 }
 
 // The number of the last record with that name.
 pub fn symbol_named(file: &[u8], table: &[u8], name: &[u8]) -> Number
     ensures { λ r. ⌜ r ≡ symbolNamed (now (file .entry)) (now (table .entry)) (now (name .entry)) ⌝ }
 {
-    last_named(
-        file,
-        table,
-        name,
-        SYMBOL_WORDS,
-        table.len() / limits::SYMBOL_BYTES,
-    )
+    last_named(file, table, name, SYMBOL_WORDS, table.len() / SYMBOL_BYTES)
 }
 
 fn lies_at(table: &[u8], va: VA, k: usize) -> bool
@@ -189,7 +166,7 @@ fn lies_at(table: &[u8], va: VA, k: usize) -> bool
 pub fn symbol_at(table: &[u8], va: VA, from: usize) -> Number
     ensures { λ r. ⌜ r ≡ symbolAt (now (table .entry)) va from ⌝ }
 {
-    let n = table.len() / limits::SYMBOL_BYTES;
+    let n = table.len() / SYMBOL_BYTES;
     let mut k = from;
     while k < n {
         if lies_at(table, va, k) {
@@ -204,7 +181,7 @@ pub fn symbol_at(table: &[u8], va: VA, from: usize) -> Number
 pub fn extern_count(table: &[u8]) -> usize
     ensures { λ r. ⌜ r ≡ externCount (now (table .entry)) ⌝ }
 {
-    table.len() / limits::EXTERN_BYTES
+    table.len() / EXTERN_BYTES
 }
 
 fn extern_record(table: &[u8], k: usize) -> Extern
@@ -223,7 +200,7 @@ fn extern_record(table: &[u8], k: usize) -> Extern
 pub fn extern_entry(table: &[u8], k: usize) -> ExternAnswer
     ensures { λ r. ⌜ r ≡ externEntry (now (table .entry)) k ⌝ }
 {
-    if k < table.len() / limits::EXTERN_BYTES {
+    if k < table.len() / EXTERN_BYTES {
         ExternAnswer::Entry(extern_record(table, k))
     } else {
         ExternAnswer::Refused(NO_ENTRY)
@@ -234,24 +211,12 @@ pub fn extern_entry(table: &[u8], k: usize) -> ExternAnswer
 pub fn extern_name_of<'a>(file: &'a [u8], table: &[u8], k: usize) -> &'a [u8]
     ensures { λ r. ⌜ now r ≡ nameOf EXTERN-WORDS (externCount (now (table .entry))) (now (file .entry)) (now (table .entry)) k ⌝ }
 {
-    name_of(
-        file,
-        table,
-        EXTERN_WORDS,
-        table.len() / limits::EXTERN_BYTES,
-        k,
-    )
+    name_of(file, table, EXTERN_WORDS, table.len() / EXTERN_BYTES, k)
 }
 
 // The number of the last record with that name.
 pub fn extern_named(file: &[u8], table: &[u8], name: &[u8]) -> Number
     ensures { λ r. ⌜ r ≡ externNamed (now (file .entry)) (now (table .entry)) (now (name .entry)) ⌝ }
 {
-    last_named(
-        file,
-        table,
-        name,
-        EXTERN_WORDS,
-        table.len() / limits::EXTERN_BYTES,
-    )
+    last_named(file, table, name, EXTERN_WORDS, table.len() / EXTERN_BYTES)
 }

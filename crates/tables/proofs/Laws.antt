@@ -6,17 +6,18 @@ use Prim.Native.Nat.{ℕ, _+_, _*_, _%_, _^_, _≤_}
 use native.Mathlib.Omega.{arith}
 use native.Mathlib.Numerals.{add-one}
 use lib.ListN.{getD, length}
-use Rattle.limits.specs.Limits.{SECTION-BYTES, EXTERN-BYTES, SLOT-SIZE}
+use Rattle.limits.specs.Limits.{SLOT-SIZE}
+use Rattle.limits.specs.Records.{SECTION-BYTES, EXTERN-BYTES}
 use Rattle.arch.specs.Page.{PAGE-SIZE}
 use Rattle.le.specs.Le.{splice, splice-long}
 use Rattle.object.specs.declared.Header.{Header}
 use Rattle.object.specs.Section.{loaded, rangeLength, fileStart, fileEnd, permissions}
 use Rattle.names.specs.declared.Name.{Name}
-use Rattle.names.specs.Name.{sectionName, symbolName}
+use Rattle.names.specs.Name.{sectionName, symbolName, nameStart, nameLength}
 use Rattle.stops.specs.Stops.{stopsOf}
 use Rattle.stops.specs.Names.{symbolNameBy, sectionNameBy}
 use Rattle.stops.specs.NameLaws.{symbol-name-is, section-name-is}
-use Rattle.words.specs.Words.{wordBytes, nameStart, nameLength, word-low, word-next}
+use Rattle.words.specs.Words.{wordBytes, word-low, word-next}
 use Rattle.words.specs.Picked.{picked, Standing, picked-none, picked-more, picked-same, joined, standing-behind, standing-long}
 use Rattle.tables.specs.Sections.{READ, sectionWords, undefWords, sectionTable}
 use Rattle.tables.specs.Externs.{externWords, externTable}

@@ -3,9 +3,9 @@ use mathlib.Core.List.{List, [], _∷_, _++_}
 use Prim.Native.Nat.{ℕ, zero, suc, _+_, _*_}
 use lib.ListN.{getD}
 use Rattle.object.specs.declared.Header.{Header}
-use Rattle.names.specs.Name.{symbolName}
+use Rattle.names.specs.Name.{symbolName, nameStart, nameLength}
 use Rattle.limits.specs.Limits.{SLOT-SIZE}
-use Rattle.words.specs.Words.{wordBytes, nameStart, nameLength}
+use Rattle.words.specs.Words.{wordBytes}
 
 module _ (f : List ℕ) (h : Header) (base undef : ℕ) (slots : List ℕ) where
   -- a record is four words: slot address, symbol number, name start, name length

@@ -1,4 +1,3 @@
 pub mod Sections
 pub mod Externs
 pub mod TableLaws
-pub mod LoadedLaws

@@ -5,8 +5,8 @@ use lib.ListN.{getD}
 use Rattle.arch.specs.Page.{PAGE-SIZE}
 use Rattle.object.specs.declared.Header.{Header}
 use Rattle.object.specs.Section.{loaded, fileStart, fileEnd, rangeLength, permissions}
-use Rattle.names.specs.Name.{sectionName}
-use Rattle.words.specs.Words.{wordBytes, nameStart, nameLength}
+use Rattle.names.specs.Name.{sectionName, nameStart, nameLength}
+use Rattle.words.specs.Words.{wordBytes}
 use Rattle.words.specs.Picked.{picked}
 
 -- UNDEF can be read

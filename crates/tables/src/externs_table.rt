@@ -4,7 +4,7 @@ use arch::VA;
 use object::Header;
 ghost use mathlib.Core.Path.{_≡_};
 ghost use Prim.Native.Nat.{_*_};
-ghost use Rattle.limits.specs.Limits.{EXTERN-BYTES};
+ghost use Rattle.limits.specs.Records.{EXTERN-BYTES};
 ghost use Rattle.le.specs.Le.{splice};
 ghost use Rattle.stops.specs.Stops.{stopsOf};
 ghost use Rattle.words.specs.Words.{wordBytes};
@@ -30,8 +30,8 @@ fn put_extern(
     let ws = [
         slot,
         j as u64,
-        words::name_start(name),
-        words::name_length(name),
+        names::name_start(name),
+        names::name_length(name),
     ];
     words::put(b, limits::EXTERN_BYTES * (e as usize), &ws);
 }

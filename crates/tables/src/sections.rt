@@ -5,7 +5,7 @@ use arch::VA;
 use object::Header;
 ghost use mathlib.Core.Path.{_≡_};
 ghost use Prim.Native.Nat.{_*_};
-ghost use Rattle.limits.specs.Limits.{SECTION-BYTES};
+ghost use Rattle.limits.specs.Records.{SECTION-BYTES};
 ghost use Rattle.le.specs.Le.{splice};
 ghost use Rattle.stops.specs.Stops.{stopsOf};
 ghost use Rattle.words.specs.Words.{wordBytes};
@@ -37,8 +37,8 @@ fn put_section(
         object::file_start(f, h, i) as u64,
         object::file_end(f, h, i),
         object::permissions(f, h, i) as u64,
-        words::name_start(name),
-        words::name_length(name),
+        names::name_start(name),
+        names::name_length(name),
         i as u64 + 1,
     ];
     words::put(b, limits::SECTION_BYTES * (n as usize), &ws);

@@ -5,6 +5,8 @@ use crate::symbol_rows;
 use kinds::RelocationKind;
 use kinds::RelocationType;
 use object::Header;
+use object::Records;
+use object::Relocation;
 ghost use mathlib.Core.Path.{_≡_};
 ghost use Rattle.kinds.specs.Types.{relocationKindNumber};
 
@@ -13,7 +15,7 @@ pub(crate) fn question(line: &[u8]) -> u8 {
     cases::place(
         cases::word(line, 1),
         b"is_loaded is_uninitialized is_extended \
-          type_of fill_primaries classes \
+          type_of left_after classes \
           machine sections string_table file_end range_length relocation_start relocation_type \
           symbol_class symbol_kind symbol_place auxiliaries auxiliaries_past \
           section_table symbol_table symbols string_length \
@@ -51,6 +53,15 @@ pub(crate) fn index(a: u64) -> u32 {
     (a % 0x100000000) as u32
 }
 
+fn read(f: &[u8], h: Header, i: u32, r: u32) -> Relocation {
+    object::read_relocation(f, object::records_of(f, h, i), r)
+}
+
+// Where relocation 0 stands.
+fn first_at(records: Records) -> u64 {
+    records.pointer as u64 + object::RELOCATION_SIZE as u64 * records.first as u64
+}
+
 // Those whose type is not of 32 bits.
 fn number(k: u8, f: &[u8], h: Header, i: u32, r: u32) -> u64 {
     match k {
@@ -59,9 +70,9 @@ fn number(k: u8, f: &[u8], h: Header, i: u32, r: u32) -> u64 {
         8 => object::string_table(h) as u64,
         9 => object::file_end(f, h, i),
         10 => object::range_length(f, h, i),
-        11 => object::relocation_start(f, h, i) as u64,
-        12 => object::relocation_type(f, h, i, r) as u64,
-        13 => object::symbol_class(f, h, i) as u64,
+        11 => first_at(object::records_of(f, h, i)),
+        12 => read(f, h, i, r).typ as u64,
+        13 => object::read_symbol(f, h, i).class as u64,
         14 => kinds::kind_number(object::symbol_kind(f, h, i)),
         15 => symbol_rows::place_number(object::symbol_place(f, h, i)),
         16 => object::auxiliaries(f, h, i) as u64,
@@ -84,9 +95,9 @@ fn word(k: u8, f: &[u8], h: Header, i: u32, r: u32) -> u32 {
         27 => object::file_start(f, h, i),
         28 => object::relocation_records(f, h, i),
         29 => object::relocation_count(f, h, i),
-        30 => object::relocation_address(f, h, i, r),
-        31 => object::relocation_symbol(f, h, i, r),
-        32 => object::symbol_value(f, h, i),
+        30 => read(f, h, i, r).address,
+        31 => read(f, h, i, r).symbol,
+        32 => object::read_symbol(f, h, i).value,
         _ => object::listed_value(f, h, i),
     }
 }

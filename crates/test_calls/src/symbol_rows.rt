@@ -18,10 +18,26 @@ pub(crate) fn place_number(place: Place) -> u64 {
 pub(crate) fn maps(f: &[u8], h: Header) {
     let mut long = [0xEEu8; 8];
     let mut short = [0xEEu8; 3];
-    object::fill_primaries(f, h, &mut long);
-    object::fill_primaries(f, h, &mut short);
+    fill(f, h, &mut long);
+    fill(f, h, &mut short);
     cases::bytes(&long);
     cases::bytes(&short);
+}
+
+// A byte for each record: 1 for a symbol's own, 0 for an auxiliary one.
+fn fill(f: &[u8], h: Header, own: &mut [u8]) {
+    let n = h.symbols;
+    let mut left: u8 = 0;
+    let mut j: u32 = 0;
+    while j < n {
+        le::put_u8(own, j as usize, own_mark(left));
+        left = object::left_after(f, h, j, left);
+        j += 1;
+    }
+}
+
+fn own_mark(left: u8) -> u8 {
+    if left == 0 { 1 } else { 0 }
 }
 
 // What symbol 1 is with each class from 0 to 255: the class from which on it is something else, and what.

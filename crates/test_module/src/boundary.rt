@@ -27,7 +27,7 @@ const NAME_LENGTH: u8 = 6;
 pub fn word(table: &[u8], i: u16, k: u8) -> u64 {
     le::u64_at(
         table,
-        i as usize * limits::SECTION_BYTES + k as usize * words::WORD,
+        i as usize * limits::SECTION_BYTES + k as usize * limits::WORD,
     )
 }
 

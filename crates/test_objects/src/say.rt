@@ -1,9 +1,15 @@
 // What stands behind a line.
+use limits::EXTERN_BYTES;
+use limits::EXTERN_NUMBER;
+use limits::SYMBOL_BYTES;
+use limits::SYMBOL_HOME;
+use limits::SYMBOL_NUMBER;
+use limits::WORD;
 use load::Load;
 use patch::Patch;
 use survey::Counts;
 use survey::Survey;
-ghost use Prim.Native.Nat.{_<_};
+ghost use Prim.Native.Nat.{_<_, _^_};
 
 // A line with survey's answer.
 pub(crate) fn survey(line: &[u8], s: Survey) {
@@ -48,18 +54,25 @@ pub(crate) fn rows(k: u8, table: &[u8], n: u16) {
     }
 }
 
+// Word w of the record at `at`.
+fn word(table: &[u8], at: usize, w: u8) -> u64
+    requires { ⌜ at < 2 ^ 32 ⌝ }
+{
+    le::u64_at(table, at + WORD * w as usize)
+}
+
 // The number of a symbol and its home, or its number alone; the number of an extern name; a word of marks.
 fn row(k: u8, table: &[u8], i: usize)
     requires { ⌜ i < 65536 ⌝ }
 {
     match k {
         2 => {
-            cases::decimal(le::u64_at(table, i * 48 + 32));
-            cases::part(b":", le::u64_at(table, i * 48 + 40));
+            cases::decimal(word(table, i * SYMBOL_BYTES, SYMBOL_NUMBER));
+            cases::part(b":", word(table, i * SYMBOL_BYTES, SYMBOL_HOME));
         }
-        3 => cases::decimal(le::u64_at(table, i * 48 + 32)),
-        7 => cases::hex(le::u64_at(table, i * 8)),
-        _ => cases::decimal(le::u64_at(table, i * 32 + 8)),
+        3 => cases::decimal(word(table, i * SYMBOL_BYTES, SYMBOL_NUMBER)),
+        7 => cases::hex(le::u64_at(table, i * WORD)),
+        _ => cases::decimal(word(table, i * EXTERN_BYTES, EXTERN_NUMBER)),
     }
 }
 

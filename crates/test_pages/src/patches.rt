@@ -1,12 +1,24 @@
 // Questions to `patch`.
 use arch::VA;
+use limits::FIXUP_BITS;
+use limits::FIXUP_BYTES;
+use limits::FIXUP_VALUE;
+use limits::WORD;
 use patch::Patch;
 
 pub(crate) fn fix(line: &[u8], list: &mut [u8]) {
-    let at = (cases::number_at(line, 1) % 3) as usize * 24;
+    let at = (cases::number_at(line, 1) % 3) as usize * FIXUP_BYTES;
     le::put_u64(list, at, cases::number_at(line, 2));
-    le::put_u64(list, at + 8, cases::number_at(line, 3));
-    le::put_u64(list, at + 16, cases::number_at(line, 4));
+    le::put_u64(
+        list,
+        at + WORD * FIXUP_BITS as usize,
+        cases::number_at(line, 3),
+    );
+    le::put_u64(
+        list,
+        at + WORD * FIXUP_VALUE as usize,
+        cases::number_at(line, 4),
+    );
 }
 
 // `patch LIST BASE NUMBER POSITION`: so many bytes of those given are the list. Behind the answer stands whether the image was kept.

@@ -10,9 +10,10 @@ use borrow.Author.Tests.{le-leb, lt-leb, leb-true}
 use lib.Dec.{leb}
 use lib.ListN.{getD, length, take, drop, take-append-drop}
 use lib.Seq.{take-suc, take-all, length-take-le}
+use Rattle.limits.specs.Records.{WORD}
 use Rattle.util.specs.Pick.{le-or-lt}
 use Rattle.le.specs.Le.{le, splice, splice-next, splice-past, splice-long, length-splice}
-use Rattle.words.specs.Words.{WORD, wordBytes, words-append, length-words}
+use Rattle.words.specs.Words.{wordBytes, words-append, length-words}
 
 module _ (ws : List ℕ) where
   one-more : (i : ℕ) → i < length ws → wordBytes (take (suc i) ws) ≡ wordBytes (take i ws) ++ le WORD (getD ws i 0)

@@ -9,10 +9,11 @@ use native.Mathlib.Nat.{add-zero, not-suc-le-zero, le-of-suc-le-suc, eq-or-lt-of
 use native.Mathlib.Numerals.{add-one}
 use lib.ListN.{length, getD, length-append, List·getD-append}
 use lib.Seq.{getD-append-seam}
+use Rattle.limits.specs.Records.{WORD}
 use Rattle.util.specs.Pick.{pick, yes-no}
 use Rattle.util.specs.Prefix.{countTo}
 use Rattle.le.specs.Le.{splice, splice-next, splice-long}
-use Rattle.words.specs.Words.{WORD, wordBytes, length-words}
+use Rattle.words.specs.Words.{wordBytes, length-words}
 use Rattle.words.specs.Rows.{rowWords, rows-join}
 
 -- the bytes of those records, `words` saying what a number's record holds

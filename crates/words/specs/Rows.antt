@@ -6,8 +6,9 @@ use native.Mathlib.Omega.{arith}
 use native.Mathlib.Nat.{mul-le-mul-left, not-suc-le-zero, le-of-suc-le-suc}
 use lib.ListN.{length, getD, length-append, List·getD-append}
 use lib.Seq.{getD-append-add}
-use Rattle.le.specs.Le.{get, splice}
-use Rattle.words.specs.Words.{WORD, wordBytes, words-append, word-back}
+use Rattle.limits.specs.Records.{WORD}
+use Rattle.le.specs.Le.{splice}
+use Rattle.words.specs.Words.{wordBytes, wordOf, words-append, word-back}
 
 -- the words of every record, one behind another
 unfoldable pub rowWords : {A : Type 0} → (A → List ℕ) → List A → List ℕ
@@ -47,7 +48,8 @@ module _ {A : Type 0} (words : A → List ℕ) (W : ℕ) (long : (x : A) → len
 
   -- word w of row k, also where other words stand behind the rows
   pub row-before : (xs : List A) (more b : List ℕ) (k w : ℕ) (d : A) → WORD * (W * length xs + length more) ≤ length b → k < length xs → w < W
-      → get WORD (splice b 0 (wordBytes (rowWords words xs ++ more))) (WORD * (W * k + w)) ≡ getD (words (getD xs k d)) w 0 % 2 ^ 64
+      → wordOf W (splice b 0 (wordBytes (rowWords words xs ++ more))) k w ≡ getD (words (getD xs k d)) w 0 % 2 ^ 64
+  unfolding wordOf
   row-before xs more b k w d f h q =
       let l = length-rows xs in
       let m = length-append (rowWords words xs) more in
@@ -56,7 +58,8 @@ module _ {A : Type 0} (words : A → List ℕ) (W : ℕ) (long : (x : A) → len
       ∙ ap (λ (v : ℕ). v % 2 ^ 64) (List·getD-append (rowWords words xs) more 0 (W * k + w) (omega arith) ∙ row-at xs k w d h q)
 
   pub row-back : (xs : List A) (b : List ℕ) (k w : ℕ) (d : A) → WORD * (W * length xs) ≤ length b → k < length xs → w < W
-      → get WORD (splice b 0 (wordBytes (rowWords words xs))) (WORD * (W * k + w)) ≡ getD (words (getD xs k d)) w 0 % 2 ^ 64
+      → wordOf W (splice b 0 (wordBytes (rowWords words xs))) k w ≡ getD (words (getD xs k d)) w 0 % 2 ^ 64
+  unfolding wordOf
   row-back xs b k w d f h q =
       let l = length-rows xs in
       let i = in-rows (length xs) k w h q in
@@ -64,7 +67,8 @@ module _ {A : Type 0} (words : A → List ℕ) (W : ℕ) (long : (x : A) → len
 
   -- and word w behind them
   pub row-behind : (xs : List A) (more b : List ℕ) (w : ℕ) → WORD * (W * length xs + length more) ≤ length b → w < length more
-      → get WORD (splice b 0 (wordBytes (rowWords words xs ++ more))) (WORD * (W * length xs + w)) ≡ getD more w 0 % 2 ^ 64
+      → wordOf W (splice b 0 (wordBytes (rowWords words xs ++ more))) (length xs) w ≡ getD more w 0 % 2 ^ 64
+  unfolding wordOf
   row-behind xs more b w f q =
       let l = length-rows xs in
       let m = length-append (rowWords words xs) more in

@@ -6,13 +6,8 @@ use native.Mathlib.Omega.{arith}
 use native.Mathlib.Nat.{zero-add, not-suc-le-zero, le-of-suc-le-suc}
 use lib.ListN.{length, getD, length-append, List·getD-append}
 use lib.Seq.{getD-append-add}
+use Rattle.limits.specs.Records.{WORD}
 use Rattle.le.specs.Le.{get, le, splice, get-same, get-low, le-low, length-le, splice-in}
-use Rattle.names.specs.declared.Name.{Name}
-use Rattle.names.specs.declared.Name.the-variants.{Good, Bad}
-
--- the bytes of a word
-abbrev pub WORD : ℕ
-WORD = 8
 
 -- words one behind another
 unfoldable pub wordBytes : List ℕ → List ℕ
@@ -22,16 +17,6 @@ wordBytes (w ∷ ws) = le WORD w ++ wordBytes ws
 -- word w of record r, where a record has W words
 unfoldable pub wordOf : ℕ → List ℕ → ℕ → ℕ → ℕ
 wordOf W table r w = get WORD table (WORD * (W * r + w))
-
--- where a name starts in the file; a bad name has no place, and counts as 0
-abbrev pub nameStart : Name → ℕ
-nameStart (Good at n) = at
-nameStart Bad = 0
-
--- how many bytes it has; a bad name none
-abbrev pub nameLength : Name → ℕ
-nameLength (Good at n) = n
-nameLength Bad = 0
 
 -- ---- laws
 -- of a word its low 64 bits are put

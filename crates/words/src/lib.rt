@@ -1,14 +1,12 @@
 // Records of whole words, eight bytes each, the low byte first. A word that would begin past the end is left out.
-use names::Name;
+use limits::WORD;
 ghost use mathlib.Core.Path.{_≡_};
 ghost use Prim.Native.Nat.{_+_, _-_, _*_, _/_, _≤_, min};
 ghost use lib.Dec.{leb};
 ghost use lib.ListN.{length};
+ghost use Rattle.limits.specs.Records.{WORD};
 ghost use Rattle.le.specs.Le.{le, splice};
-ghost use Rattle.words.specs.Words.{WORD, wordBytes, nameStart, nameLength};
-
-// The bytes of a word.
-pub const WORD: usize = 8;
+ghost use Rattle.words.specs.Words.{wordBytes};
 
 // How many of `n` words from `at` on begin within `len` bytes.
 fn room(len: usize, at: usize, n: usize) -> usize
@@ -88,25 +86,5 @@ pub fn put(b: &mut [u8], at: usize, ws: &[u64])
         put_inside(b, at, ws);
     } else {
         put_room(b, at, ws);
-    }
-}
-
-// The two words of a name: where it starts in the file, and how long it is.
-pub fn name_start(name: Name) -> u64
-    ensures { λ r. ⌜ r ≡ nameStart name ⌝ }
-{
-    match name {
-        Name::Good(at, _) => at as u64,
-        Name::Bad => 0,
-    }
-}
-
-// How long it is.
-pub fn name_length(name: Name) -> u64
-    ensures { λ r. ⌜ r ≡ nameLength name ⌝ }
-{
-    match name {
-        Name::Good(_, n) => n as u64,
-        Name::Bad => 0,
     }
 }

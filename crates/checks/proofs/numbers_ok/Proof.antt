@@ -4,7 +4,7 @@ use Prim.Native.Nat.{_-_, _≤_}
 use mathlib.Core.Path.{_≡_}
 use mathlib.Core.Bool.{true}
 use Rattle.object.specs.Symbol.{auxiliariesLeft, okAt}
-use Rattle.object.specs.SymbolLaws.{left-none, left-again}
+use Rattle.object.specs.SymbolLaws.{left-none, left-past}
 use Rattle.checks.specs.Checks.{numberOk}
 use Rattle.checks.proofs.numbers_ok.Statement.{statement}
 use Rattle.checks.proofs.numbers_ok.Tie as tie
@@ -27,5 +27,6 @@ numbers-ok-spec =
     (λ c. search (needs, all-loop))
     (λ c. search (needs, all-loop))
     (λ c. search (needs, all-loop))
-    (λ c. (search needs, search (needs, left-again), search (needs, all-again)))
+    (λ c. search (needs, all-loop))
+    (λ c. (search needs, search (needs, left-past), search (needs, all-again)))
     (λ c. search (needs, all-loop)))

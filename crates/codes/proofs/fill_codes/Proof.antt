@@ -4,7 +4,7 @@ use Prim.Native.Nat.{_-_, _≤_}
 use mathlib.Core.Path.{_≡_}
 use Rattle.le.specs.Le.{splice, splice-long}
 use Rattle.object.specs.Symbol.{auxiliariesLeft}
-use Rattle.object.specs.SymbolLaws.{left-again}
+use Rattle.object.specs.SymbolLaws.{left-past}
 use Rattle.codes.specs.Code.{codesTo}
 use Rattle.codes.proofs.fill_codes.Statement.{statement}
 use Rattle.codes.proofs.fill_codes.Tie as tie
@@ -27,6 +27,7 @@ fill-codes-spec =
     (λ c. search (needs, code-loop, splice-long))
     (λ c. search (needs, code-loop, splice-long))
     (λ c. search (needs, code-loop, splice-long))
-    (λ c. (search needs, search (needs, left-again), search (needs, code-again)))
+    (λ c. search (needs, code-loop, splice-long))
+    (λ c. (search needs, search (needs, left-past), search (needs, code-again)))
     (λ c. search (needs, code-loop, splice-long))
     (λ c. search (needs, code-loop, splice-long)))

@@ -26,4 +26,5 @@ leap-spec =
     (λ c. search (needs, skip-loop))
     (λ c. search (needs, skip-loop))
     (λ c. search (needs, skip-loop))
+    (λ c. search (needs, skip-loop))
     (λ c. search (needs, skip-loop)))

@@ -7,11 +7,14 @@ pub note-spec : {M : Type 1} → statement M
 note-spec =
     tie.close
     (tie.spec
+    (λ c. search needs)
+    (λ c. search needs)
+    (λ c. search needs)
+    (λ c. search needs)
+    (λ c. search needs)
     (λ c. search (needs, notes))
+    (λ c. search needs)
+    (λ c. search needs)
     (λ c. search (needs, notes))
-    (λ c. search (needs, notes))
-    (λ c. search (needs, notes))
-    (λ c. search (needs, notes))
-    (λ c. search (needs, notes))
-    (λ c. search (needs, notes))
+    (λ c. search needs)
     (λ c. search (needs, notes)))

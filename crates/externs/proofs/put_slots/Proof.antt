@@ -8,10 +8,10 @@ use Rattle.externs.proofs.put_slots.Statement.{statement}
 use Rattle.externs.proofs.put_slots.Tie as tie
 
 abbrev Inv-loop : tie.InvT-loop
-Inv-loop f h slots codes₀ m j₀ codes j = (j ≤ m) × (codes ≡ splice codes₀ 0 (slottedTo f h slots codes₀ j))
+Inv-loop f h slots keys codes₀ m j₀ codes j = (j ≤ m) × (codes ≡ splice codes₀ 0 (slottedTo f h slots codes₀ j))
 
 abbrev μ-loop : tie.MeasureT-loop
-μ-loop f h slots codes₀ m j₀ codes j = m - j
+μ-loop f h slots keys codes₀ m j₀ codes j = m - j
 
 pub put-slots-spec : {M : Type 1} → statement M
 put-slots-spec =

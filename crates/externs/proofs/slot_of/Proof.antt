@@ -10,10 +10,10 @@ use Rattle.externs.proofs.slot_of.Statement.{statement}
 use Rattle.externs.proofs.slot_of.Tie as tie
 
 abbrev Inv-loop : tie.InvT-loop
-Inv-loop f h slots j name lo₀ n₀ lo n = (lo + n ≤ length slots) × (halves f h slots (spanText f name) n lo n ≡ slotOf f h slots (symbolText f h j))
+Inv-loop f h slots keys j name key lo₀ n₀ lo n = (lo + n ≤ length slots) × (halves f h slots (spanText f name) n lo n ≡ slotOf f h slots (symbolText f h j))
 
 abbrev μ-loop : tie.MeasureT-loop
-μ-loop f h slots j name lo₀ n₀ lo n = n
+μ-loop f h slots keys j name key lo₀ n₀ lo n = n
 
 pub slot-of-spec : {M : Type 1} → statement M
 slot-of-spec =
@@ -27,6 +27,9 @@ slot-of-spec =
     (λ c. search (needs, half-loop))
     (λ c. search (needs, half-loop))
     (λ c. search (needs, half-loop))
+    (λ c. search (needs, half-loop))
+    (λ c. search (needs, half-loop))
+    (λ c κs. (search needs, search (needs, half-loop)))
     (λ c. search (needs, half-loop))
     (λ c. search (needs, half-loop))
     (λ c. search (needs, half-loop))

@@ -27,7 +27,7 @@ write-relocations-spec =
     (λ c. search (needs, rows-none, rows-again, rows-end, rows-room, fixes-long, skips-long))
     (λ c. search (needs, rows-none, rows-again, rows-end, rows-room, fixes-long, skips-long))
     (λ c. search (needs, rows-none, rows-again, rows-end, rows-room, fixes-long, skips-long))
-    (λ c. (search needs, rows-again _ _ _ _ _ _ _ _ _ _ _ _ (c .before .before .before .before .before .before .before .before .loop .inv .1) (c .before .before .before .before .write-section .ensures)))
+    (λ c. (search needs, rows-again _ _ _ _ _ _ _ _ _ _ _ _ (c .before .before .before .before .before .before .before .before .loop .inv .1) (c .before .before .before .before .write-next .ensures)))
     (λ c. search (needs, rows-none, rows-again, rows-end, rows-room, fixes-long, skips-long))
     (λ c. search (needs, rows-none, rows-again, rows-end, rows-room, fixes-long, skips-long))
     (λ c. search (needs, rows-none, rows-again, rows-end, rows-room, fixes-long, skips-long)))

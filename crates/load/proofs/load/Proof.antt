@@ -1,5 +1,5 @@
 use borrow.Author.Needs.{needs}
-use Rattle.load.proofs.Laws.{slots-long, load-no, load-yes}
+use Rattle.load.proofs.Laws.{sizes}
 use Rattle.load.proofs.load.Statement.{statement}
 use Rattle.load.proofs.load.Tie as tie
 
@@ -7,6 +7,10 @@ pub load-spec : {M : Type 1} → statement M
 load-spec =
     tie.close
     (tie.spec
+    (λ c κs. search needs)
+    (λ c. search needs)
+    (λ c κs. search (needs, sizes))
+    (λ c κs. search (needs, sizes))
     (λ c. search needs)
     (λ c. search needs)
     (λ c. search needs)
@@ -16,14 +20,10 @@ load-spec =
     (λ c. search needs)
     (λ c. search needs)
     (λ c. search needs)
-    (λ c. slots-long _ _ _ _ _ _ _ _ (c .before .before .before .before .before .before .before .before .before .before .plan-file .ensures))
-    (λ c. search needs)
-    (λ c. load-no _ _ _ _ _ _ _ _ (c .before .before .before .before .before .before .plan-file .ensures) _ (c .before .n .given .1))
     (λ c. search needs)
     (λ c. search needs)
     (λ c. search needs)
     (λ c. search needs)
     (λ c. search needs)
     (λ c. search needs)
-    (λ c. search needs)
-    (λ c. load-yes _ _ _ _ _ _ _ _ (c .before .before .before .before .before .before .before .before .before .before .before .before .before .before .before .before .before .before .before .before .before .before .before .before .before .before .before .before .before .before .before .before .plan-file .ensures) _ _ _ (c .before .before .before .before .before .before .before .before .before .before .before .before .before .before .before .before .before .before .before .before .before .before .before .before .before .before .before .c .given .1) (c .before .before .before .before .before .before .before .before .before .before .before .before .before .before .write-all .ensures)))
+    (λ c. search needs))

@@ -46,7 +46,7 @@ use denote.Triple.Spec.{Meets, tripleOf}
 use denote.Triple.Table.{entered, cited}
 use denote.Triple.Walked.{says, Stays, stay-slice, stay-none-slice, walkOf, goes-slice, goes-none-slice, Walks, ends-at, walked, walk-meets}
 use denote.Exit.{yes}
-use Rattle.limits.specs.Limits.{SECTION-BYTES}
+use Rattle.limits.specs.Records.{SECTION-BYTES}
 use Rattle.section.specs.declared.Section.{Section}
 use Rattle.module.specs.Questions.{blank, sectionAt, fillTo}
 use Rattle.module.specs.QuestionLaws.{length-fillTo}
@@ -110,7 +110,7 @@ module _ {M : Type 1} (𝓤 : URA M) (H : Heap 𝓤) (A : Atoms 𝓤) (W : Given
 
   -- how many records are filled
   abbrev m : ℕ
-  m = min (length (src .now) / 64) n
+  m = min (length (src .now) / SECTION-BYTES) n
 
   abbrev Arg : Type 0
   Arg = RefT (List ℕ) × (RefT (List Section) × Unit {0})

@@ -1,5 +1,5 @@
 use borrow.Author.Needs.{needs}
-use Rattle.patch.proofs.Laws.{part-read}
+use Rattle.patch.proofs.Laws.{word-read}
 use Rattle.patch.proofs.word.Statement.{statement}
 use Rattle.patch.proofs.word.Tie as tie
 
@@ -12,4 +12,8 @@ word-spec =
     (λ c. search needs)
     (λ c. search needs)
     (λ c. search needs)
-    (λ c. search (needs, part-read)))
+    (λ c. search needs)
+    (λ c. search needs)
+    (λ c. search needs)
+    (λ c κs. search needs)
+    (λ c. search (needs, word-read)))

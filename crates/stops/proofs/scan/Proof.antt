@@ -2,7 +2,7 @@ use borrow.Author.Needs.{needs}
 use Prim.Native.Nat.{_+_, _-_, _≤_}
 use mathlib.Core.Path.{_≡_}
 use Rattle.stops.specs.Stops.{stopIn}
-use Rattle.stops.proofs.Laws.{scan-loop}
+use Rattle.stops.proofs.Laws.{scan-loop, scan-more}
 use Rattle.stops.proofs.scan.Statement.{statement}
 use Rattle.stops.proofs.scan.Tie as tie
 
@@ -20,11 +20,12 @@ scan-spec =
     μ-loop
     (λ c. search (needs, scan-loop))
     (λ c. search (needs, scan-loop))
+    (λ c κs. search (needs, scan-loop))
     (λ c. search (needs, scan-loop))
     (λ c. search (needs, scan-loop))
     (λ c. search (needs, scan-loop))
     (λ c. search (needs, scan-loop))
     (λ c. search (needs, scan-loop))
     (λ c. search (needs, scan-loop))
-    (λ c. search (needs, scan-loop))
+    (λ c. (search needs, search needs, search (needs, scan-more)))
     (λ c. search (needs, scan-loop)))

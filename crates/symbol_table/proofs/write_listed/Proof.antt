@@ -32,4 +32,5 @@ write-listed-spec =
     (λ c. search (needs, symbols-loop))
     (λ c. search (needs, symbols-loop))
     (λ c. search (needs, symbols-loop))
+    (λ c. search (needs, symbols-loop))
     (λ c. search (needs, symbols-loop)))

@@ -7,8 +7,7 @@ pub is-listed-spec : {M : Type 1} → statement M
 is-listed-spec =
     tie.close
     (tie.spec
-    (λ c. search (needs, both-is))
-    (λ c. search (needs, both-is))
-    (λ c. search (needs, both-is))
-    (λ c. search (needs, both-is))
+    (λ c. search needs)
+    (λ c. search needs)
+    (λ c. search needs)
     (λ c. search (needs, both-is)))

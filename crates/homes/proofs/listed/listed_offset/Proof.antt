@@ -9,6 +9,4 @@ listed-offset-spec =
     (tie.spec
     (λ c. search needs)
     (λ c. search needs)
-    (λ c. search needs)
-    (λ c. search needs)
     (λ c. (search (needs, offset-is), search needs)))

@@ -32,4 +32,5 @@ listed-total-spec =
     (λ c. search (needs, total-loop))
     (λ c. search (needs, total-loop))
     (λ c. search (needs, total-loop))
+    (λ c. search (needs, total-loop))
     (λ c. search (needs, total-loop)))

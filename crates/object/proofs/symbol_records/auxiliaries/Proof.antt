@@ -1,10 +1,10 @@
 use borrow.Author.Needs.{needs}
 use Rattle.object.proofs.Laws.{moved-byte}
-use Rattle.object.proofs.format.symbol_u8.Statement.{statement}
-use Rattle.object.proofs.format.symbol_u8.Tie as tie
+use Rattle.object.proofs.symbol_records.auxiliaries.Statement.{statement}
+use Rattle.object.proofs.symbol_records.auxiliaries.Tie as tie
 
-pub symbol-u8-spec : {M : Type 1} → statement M
-symbol-u8-spec =
+pub auxiliaries-spec : {M : Type 1} → statement M
+auxiliaries-spec =
     tie.close
     (tie.spec
     (λ c. search needs)

@@ -1,0 +1,14 @@
+use borrow.Author.Needs.{needs}
+use Rattle.stops.proofs.Laws.{field-ways}
+use Rattle.stops.proofs.field_ends.Statement.{statement}
+use Rattle.stops.proofs.field_ends.Tie as tie
+
+pub field-ends-spec : {M : Type 1} → statement M
+field-ends-spec =
+    tie.close
+    (tie.spec
+    (λ c. search needs)
+    (λ c κs. search needs)
+    (λ c κs. search needs)
+    (λ c κs. search needs)
+    (λ c. search (needs, field-ways)))
