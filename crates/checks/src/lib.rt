@@ -1,11 +1,14 @@
 // Refusals 7 and 8: section numbers and mapped pages; and 12, the base. A check is called only where those before it passed.
+use arch::RVA;
 use arch::VA;
-use kinds::Place;
 use object::Header;
 use object::Symbol;
 ghost use mathlib.Core.Path.{_≡_};
+ghost use lib.Dec.{leb};
+ghost use Rattle.limits.specs.Limits.{MAX-PAGES};
+ghost use Rattle.layout.specs.Layout.{pagesTo};
 ghost use Rattle.object.specs.Symbol.{symbolOf, placeOf, auxiliariesLeft, okAt};
-ghost use Rattle.checks.specs.Checks.{baseOk, numberOk, numbersOk, pagesOk, placeWithin};
+ghost use Rattle.checks.specs.Checks.{baseOk, numberOk, numbersOk, placeWithin};
 
 // 12: the base is a page multiple and not too high.
 pub fn base_ok(base: VA) -> bool
@@ -14,23 +17,15 @@ pub fn base_ok(base: VA) -> bool
     util::both(base.is_page_aligned(), base.0 <= limits::MAX_BASE)
 }
 
-fn place_within(n: u32, p: Place) -> bool
-    ensures { λ r. ⌜ r ≡ placeWithin n p ⌝ }
-{
-    match p {
-        Place::In(k) => k <= n,
-        Place::Undefined => true,
-        Place::Common => true,
-        Place::Absolute => true,
-        Place::Nowhere => true,
-        Place::Other => true,
-    }
-}
-
+// By the number's sixteen bits: from 0x8000 on it is negative, and no section's.
 fn number_ok(h: Header, s: Symbol) -> bool
     ensures { λ r. ⌜ r ≡ placeWithin (h .sections) (placeOf s) ⌝ }
 {
-    place_within(h.sections as u32, object::place_of(s))
+    if s.number < 0x8000 {
+        s.number <= h.sections
+    } else {
+        true
+    }
 }
 
 // Of record j, which is s; `left` auxiliary ones stand from it on.
@@ -60,9 +55,9 @@ pub fn numbers_ok(f: &[u8], h: Header) -> bool
     true
 }
 
-// 8: not too many pages are mapped.
-pub fn pages_ok(f: &[u8], h: Header) -> bool
-    ensures { λ r. ⌜ r ≡ pagesOk (now (f .entry)) h ⌝ }
+// 8: not too many pages are mapped, if UNDEF starts there.
+pub fn pages_fit(undef: RVA) -> bool
+    ensures { λ r. ⌜ r ≡ leb (pagesTo (undef .0)) MAX-PAGES ⌝ }
 {
-    layout::mapped_pages(f, h) <= limits::MAX_PAGES
+    layout::pages_to(undef) <= limits::MAX_PAGES
 }

@@ -17,10 +17,10 @@ use Rattle.survey.specs.declared.answer.Survey.the-variants.{Accepted, Refused}
 use Rattle.survey.specs.Survey.{Check, check, firstFailed, externChecks, targetChecks, tally, checks, counts, surveyOf}
 use Rattle.survey.specs.SurveyLaws.{check-holds, checks-hold, ordered, ordered-rest, records-rest, tells-accepted, tells-refused}
 use Rattle.checks.specs.Checks.{baseOk}
-use Rattle.load.specs.declared.answer.Load.{Load}
-use Rattle.load.specs.declared.answer.Load.the-variants as load
+use Rattle.loading.specs.declared.answer.Load.{Load}
+use Rattle.loading.specs.declared.answer.Load.the-variants as load
 use Rattle.storage.specs.Storage.{Storage, stored}
-use Rattle.load.specs.Load.{roomOk, loadChecks, loadAnswer, Loads}
+use Rattle.loading.specs.Load.{roomOk, loadChecks, loadAnswer, Loads}
 use Rattle.load.specs.LoadLaws.{load-refused, load-tells-refused}
 
 -- ---- the first of a list of checks that fails, and its number

@@ -38,11 +38,11 @@ use Rattle.survey.specs.Survey.{firstFailed, checks, counts, surveyOf}
 use Rattle.survey.specs.Acceptance.{IsFixed, no-skips-all-fixed}
 use Rattle.marks.specs.Marks.{WORD-BYTES, wordsFor}
 use Rattle.checks.specs.Checks.{baseOk}
-use Rattle.load.specs.declared.answer.Load.{Load}
-use Rattle.load.specs.declared.answer.Load.the-variants as load
+use Rattle.loading.specs.declared.answer.Load.{Load}
+use Rattle.loading.specs.declared.answer.Load.the-variants as load
 use Rattle.plan.specs.Plan.{layoutRoom, listsRoom}
 use Rattle.storage.specs.Storage.{Storage, storage, stored}
-use Rattle.load.specs.Load.{roomOk, loadChecks, loadAnswer, Loads}
+use Rattle.loading.specs.Load.{roomOk, loadChecks, loadAnswer, Loads}
 use Rattle.demands.specs.Calls.{Call}
 use Rattle.demands.specs.Origin.{fixupAt, fixupValue}
 use Rattle.demands.specs.Demand2.{standardAt, From, Stays, standard-of-file}

@@ -15,14 +15,14 @@ use Rattle.limits.specs.Limits.{MAX-PAGES, MAX-EXTERNS}
 use Rattle.limits.specs.Records.{FIXUP-BYTES, EXTERN-BYTES, SECTION-BYTES}
 use Rattle.survey.specs.declared.answer.Counts.{Counts}
 use Rattle.survey.specs.declared.answer.Survey.the-variants.{Accepted}
-use Rattle.load.specs.declared.answer.Load.the-variants.{Loaded}
+use Rattle.loading.specs.declared.answer.Load.the-variants.{Loaded}
 use Rattle.survey.specs.Survey.{surveyOf}
 use Rattle.marks.specs.Marks.{WORD-BYTES, wordsFor}
 use Rattle.image.specs.Laid.{laidImage}
 use Rattle.image.specs.LaidLaws.{length-laid}
 use Rattle.checks.specs.Checks.{baseOk}
 use Rattle.storage.specs.Storage.{Storage}
-use Rattle.load.specs.Load.{Loads}
+use Rattle.loading.specs.Load.{Loads}
 use Rattle.plan.specs.PlanLaws.{rooms}
 use Rattle.load.specs.LoadLaws.{load-accepts, load-leaves, pages-counted}
 use Rattle.demands.specs.Origin.{slotsOf}

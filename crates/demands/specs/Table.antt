@@ -21,7 +21,7 @@ use Rattle.layout.specs.Layout.{undefStart, nextStart, startAt, startsTo}
 use Rattle.good_names.specs.GoodNames.{namesOk}
 use Rattle.checks.specs.Checks.{baseOk}
 use Rattle.storage.specs.Storage.{Storage}
-use Rattle.load.specs.Load.{loadChecks}
+use Rattle.loading.specs.Load.{loadChecks}
 use Rattle.demands.specs.Calls.{Call, patch, asked, appliedBy, applied}
 use Rattle.demands.specs.Origin.{noFixup, fixupAt, fixupValue, slotValue, undefAddress, covers, latest, originBy, byteOf}
 use Rattle.demands.specs.Counted.{lentOf}

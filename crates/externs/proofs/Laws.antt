@@ -1,26 +1,19 @@
 -- The ways through the readers, and the loops over the list of externs. Assumes nothing.
-use Rattle.le.specs.Le.{splice, part, splice-next, splice-above, fill-none, fill-again, fill-end, IsBytes}
+use Rattle.le.specs.Le.{splice, splice-next, splice-above, fill-none, fill-again, fill-end, IsBytes}
 use mathlib.Core.Path.{_≡_, refl, sym, ap, _∙_}
-use mathlib.Core.Bool.{Bool, true, false, not}
+use mathlib.Core.Bool.{Bool, true, false}
 use mathlib.Core.List.{List, [], _∷_, _++_, append-assoc, append-nil}
-use mathlib.Core.Logic.{_⊎_, inl, inr, ⊎-elim}
-use Prim.Native.Nat.{ℕ, zero, suc, _+_, _-_, _*_, _/_, _%_, _^_, _≤_, _<_, min}
-use native.Mathlib.Nat.{not-suc-le-zero, le-of-suc-le-suc, one-mul, zero-div, add-div-right, add-mul-div-left, pow-suc}
+use mathlib.Core.Logic.{_⊎_, ⊎-elim}
+use Prim.Native.Nat.{ℕ, zero, suc, _+_, _-_, _/_, _%_, _≤_, _<_, min}
+use native.Mathlib.Nat.{not-suc-le-zero, le-of-suc-le-suc}
 use native.Mathlib.Numerals.{add-one, sub-one}
 use native.Mathlib.Omega.{arith}
-use borrow.Author.Tests.{eq-eqb, ne-eqb, eqb-true, eqb-false, lt-leb, le-leb, not-true, not-false}
-use lib.Dec.{eqb, leb, lit<}
-use lib.ListN.{length, getD, take, drop, set, getD-replicate, List·getD-eq-default, length-append, length-drop, drop-of-length-le, length-set, replicate, length-replicate, length-take, replicate-append-replicate}
-use lib.Pow.{pow-pos, pow-lt, pow-add, shl-exact, shr-shr}
+use borrow.Author.Tests.{eq-eqb, ne-eqb}
+use lib.ListN.{length, getD, take, drop, set, length-append, length-drop, drop-of-length-le, length-set, replicate, length-replicate, length-take, replicate-append-replicate}
 use lib.Seq.{drop-cons, take-suc, take-take, length-take-le, getD-take, take-set-le, take-set-lt, drop-set-lt, getD-set-same, set-split, split-at, take-at, append-snoc, sets-eq}
-use Rattle.util.specs.Pick.{pick, le-or-lt, three-ways}
+use Rattle.util.specs.Pick.{pick, le-or-lt}
 use Rattle.util.specs.Prefix.{length-list}
-use Rattle.util.specs.Fold.{foldRecords, foldSections}
 use Rattle.object.specs.declared.Header.{Header}
-use Rattle.object.specs.Section.{relocationCount}
-use Rattle.object.specs.declared.Records.{Records}
-use Rattle.object.specs.declared.Relocation.{Relocation}
-use Rattle.object.specs.Relocation.{relocationSymbol, relocationIn, recordsOf, recordAt, count-read, symbol-read}
 use Rattle.names.specs.declared.Order.{Order}
 use Rattle.names.specs.declared.Order.the-variants.{Less, Equal, Greater}
 use Rattle.names.specs.Bytes.{sameBytes, compareBytes}
@@ -31,17 +24,16 @@ use Rattle.order.specs.Key.{KEY-BYTES, key}
 use Rattle.order.specs.KeyLaws.{key-less, key-greater}
 use mir.Val.{Fits}
 use mir.Syntax.{w8}
-use Rattle.limits.specs.Limits.{MAX-EXTERNS, EXTERN-ROOM}
-use Rattle.externs.specs.Externs.{orderOf, insertName, externStep, externRecords, externsTo, Holds, namesOf, slotWords}
-use Rattle.externs.specs.ExternLaws.{records-grow, sections-grow, over-length, count-room, count-list}
+use Rattle.limits.specs.Limits.{MAX-EXTERNS}
+use Rattle.externs.specs.Externs.{orderOf, insertName, Holds}
+use Rattle.externs.specs.ExternLaws.{count-list}
 use Rattle.externs.specs.Held.{held, putAt, lowerAt, Placed, Inserted}
 use Rattle.externs.specs.Keys.{symbolKey, keysOf, InStep, PutBoth, KeysRise, Skipped, Keyed}
 use Rattle.externs.specs.Bisect.{nameOrder, bySide, halves}
 use Rattle.externs.specs.BisectLaws.{bisect-slot}
-use Rattle.externs.specs.Inserting.{Rising, min-name, rise, keep, put-in, put-again, rising-at}
-use Rattle.externs.specs.Seen.{isSeen, noted, Seen, Kept, KeptFor}
+use Rattle.externs.specs.Inserting.{Rising, min-name, rise, rising-at}
 use Rattle.externs.specs.Slot.{slotOf}
-use Rattle.externs.specs.Slotted.{foundCode, takesSlot, slottedCode, slottedAt, slottedTo, slotted, codesAfter}
+use Rattle.externs.specs.Slotted.{foundCode, takesSlot, settled, slottedCode, slottedAt, slottedTo}
 use Rattle.codes.specs.Code.{NO-SLOT, SPAN, SLOTS}
 use Rattle.externs.specs.declared.Names.{Names}
 use Rattle.externs.specs.declared.Names.the-variants.{TooMany, Count}
@@ -206,141 +198,9 @@ module _ (f : List ℕ) (h : Header) where
         let k : p < length (held n l) = rw (held-length n l (omega arith)) (present-room f h j n (held n l) s p q is) in
         e ∙ keys-lower p j (held n l) k (present-order f h j n (held n l) s p q is) ∙ ap (keysOf f h) (sym y)
 
-  step-none : (l ks : List ℕ) → InStep f h l ks 0
+  pub step-none : (l ks : List ℕ) → InStep f h l ks 0
   unfolding InStep keysOf held
   step-none l ks = refl
-
--- ---- the table of symbols that were put
-pub seen-bit : (s : List ℕ) (j b : ℕ) → b ≡ getD s (j / 8) 0 → eqb (b / 2 ^ (j % 8) % 2) 1 ≡ isSeen s j
-seen-bit s j b e = rw e
-
--- a bit that is added to a number changes none below it,
-low-bits : (b m n : ℕ) → m < n → (b + 2 ^ n) / 2 ^ m % 2 ≡ b / 2 ^ m % 2
-low-bits b m n h =
-    let d : ℕ = n - m - 1 in
-    let z : m + suc d ≡ n = omega arith in
-    let e : 2 ^ n ≡ 2 ^ m * (2 ^ d * 2) = ap (λ (k : ℕ). 2 ^ k) (sym z) ∙ pow-add 2 m (suc d) ∙ ap (λ (k : ℕ). 2 ^ m * k) (pow-suc 2 d) in
-    rw (e, add-mul-div-left b (2 ^ d * 2) (pow-pos m)) (omega arith)
-
--- and where it was not set none above it
-high-bits : (b m n : ℕ) → n < m → b / 2 ^ n % 2 ≡ 0 → (b + 2 ^ n) / 2 ^ m % 2 ≡ b / 2 ^ m % 2
-high-bits b m n h clear =
-    let d : ℕ = m - n - 1 in
-    let z : m ≡ n + (1 + d) = omega arith in
-    let up : (x : ℕ) → x / 2 ^ n / 2 / 2 ^ d ≡ x / 2 ^ m = λ x. shr-shr (x / 2 ^ n) 1 d ∙ shr-shr x n (1 + d) ∙ ap (λ (k : ℕ). x / 2 ^ k) (sym z) in
-    let e : (b + 2 ^ n) / 2 ^ n / 2 ≡ b / 2 ^ n / 2 = rw (add-div-right b (pow-pos n)) (omega arith) in
-    rw (← up (b + 2 ^ n), ← up b, e)
-
--- nothing is shifted out
-bit-of : (j : ℕ) → 1 * 2 ^ (j % 8) % 2 ^ 8 ≡ 2 ^ (j % 8)
-bit-of j = shl-exact {a = 1} 1 (j % 8) 8 (lit< tt) (omega arith) ∙ one-mul _
-
-clear-bit : (s : List ℕ) (j : ℕ) → isSeen s j ≡ false → getD s (j / 8) 0 / 2 ^ (j % 8) % 2 ≡ 0
-clear-bit s j e = let z = eqb-false (getD s (j / 8) 0 / 2 ^ (j % 8) % 2) 1 e in omega arith
-
-module _ (s : List ℕ) (j : ℕ) (r : Bool) (is : r ≡ isSeen s j) where
-  pub note-past : not r ≡ false → s ≡ noted s j
-  unfolding noted pick
-  note-past t = rw (← is, not-false r t)
-
-  module _ (t : not r ≡ true) (b : ℕ) (here : b ≡ getD s (j / 8) 0) where
-    -- the sum is a byte: it has no bit above those of b
-    pub note-fits : b < 2 ^ 8 → b + 1 * 2 ^ (j % 8) % 2 ^ 8 < 2 ^ 8
-    note-fits k =
-        let e : 1 * 2 ^ (j % 8) % 2 ^ 8 ≡ 2 ^ (j % 8) = bit-of j in
-        let l : 2 ^ (j % 8) < 2 ^ 8 = pow-lt {i = j % 8} {j = 8} (omega arith) in
-        let z = high-bits b 8 (j % 8) (omega arith) (rw here (clear-bit s j (sym is ∙ not-true r t))) in
-        omega arith
-
-    pub note-new : (s′ : List ℕ) → s′ ≡ splice s (j / 8) ((b + 1 * 2 ^ (j % 8) % 2 ^ 8) ∷ []) → s′ ≡ noted s j
-    unfolding noted pick
-    note-new s′ e = rw (← is, not-true r t, ← here, ← bit-of j) e
-
-pub ruleset notes = (note-past, note-fits, note-new)
-
--- a list with v at a place: it stands there, or what stood there before
-set-cell : (s : List ℕ) (at v i : ℕ) → ((i ≡ at) × (getD (set s at v) i 0 ≡ v)) ⊎ (getD (set s at v) i 0 ≡ getD s i 0)
-set-cell [] at v i = inr refl
-set-cell (y ∷ s) zero v zero = inl (refl, refl)
-set-cell (y ∷ s) zero v (suc i) = inr refl
-set-cell (y ∷ s) (suc at) v zero = inr refl
-set-cell (y ∷ s) (suc at) v (suc i) = ⊎-elim (λ p. inl (ap suc (p .0), p .1)) (λ e. inr e) (set-cell s at v i)
-
--- what is seen once j is noted is j, or was seen before
-noted-seen : (s : List ℕ) (j x : ℕ) → isSeen (noted s j) x ≡ true → (x ≡ j) ⊎ (isSeen s x ≡ true)
-unfolding noted splice pick
-noted-seen s j x = by-bit (isSeen s j) refl
-  where
-    b : ℕ
-    b = getD s (j / 8) 0
-
-    v : ℕ
-    v = b + 2 ^ (j % 8)
-
-    was : x / 8 ≡ j / 8 → getD (set s (j / 8) v) (x / 8) 0 ≡ v → isSeen (set s (j / 8) v) x ≡ true → v / 2 ^ (x % 8) % 2 ≡ b / 2 ^ (x % 8) % 2 → isSeen s x ≡ true
-    was here e q same = rw (here, ← same) (rw e at q)
-
-    by-bit : (r : Bool) → isSeen s j ≡ r → isSeen (pick r s (splice s (j / 8) (v ∷ []))) x ≡ true → (x ≡ j) ⊎ (isSeen s x ≡ true)
-    by-bit true e q = inr q
-    by-bit false e q =
-        ⊎-elim
-        (λ p. ⊎-elim (λ k. inr (was (p .0) (p .1) q (low-bits b (x % 8) (j % 8) k)))
-        (⊎-elim (λ k. let z = p .0 in inl (omega arith)) (λ k. inr (was (p .0) (p .1) q (high-bits b (x % 8) (j % 8) k (clear-bit s j e)))))
-        (three-ways (x % 8) (j % 8)))
-        (λ z. inr (rw z at q)) (set-cell s (j / 8) v (x / 8))
-
-module _ (f : List ℕ) (h : Header) where
-  pub seen-none : (n : ℕ) → Seen f h (replicate n 0) []
-  unfolding Seen
-  seen-none n j q =
-      let e : getD (replicate {A = ℕ} n 0) (j / 8) 0 ≡ 0 =
-      ⊎-elim (λ k. List·getD-eq-default (replicate {A = ℕ} n 0) 0 {n = j / 8} (rw (length-replicate {A = ℕ} n 0) k)) (λ k. getD-replicate {A = ℕ} n (j / 8) 0 0 k) (le-or-lt n (j / 8))
-      in
-      let z : 0 / 2 ^ (j % 8) % 2 ≡ 1 = eqb-true (0 / 2 ^ (j % 8) % 2) 1 (rw e at q) in
-      let o : 0 / 2 ^ (j % 8) ≡ 0 = zero-div (2 ^ (j % 8)) in
-      absurd (omega arith)
-
-  module _ (l ks s : List ℕ) where
-    pub table-none : Seen f h s [] → Kept f h l ks s 0
-    unfolding held
-    table-none e = record { step = step-none f h l ks; rising = tt; known = e }
-
-    pub table-step : (n : ℕ) → Kept f h l ks s n → InStep f h l ks n
-    table-step n k = k .step
-
-    pub table-rising : (n : ℕ) → Kept f h l ks s n → Rising f h (held n l)
-    table-rising n k = k .rising
-
-    pub table-over : KeptFor f h l ks s TooMany
-    unfolding KeptFor
-    table-over = tt
-
-    pub table-count : (n : ℕ) → Kept f h l ks s n → KeptFor f h l ks s (Count n)
-    unfolding KeptFor
-    table-count n e = e
-
-    pub table-of : (r : Names) (n : ℕ) → KeptFor f h l ks s r → r ≡ Count n → Kept f h l ks s n
-    unfolding KeptFor
-    table-of r n e q = rw q at e
-
-    module _ (n j : ℕ) (k : Kept f h l ks s n) where
-      -- what was seen adds nothing
-      pub add-seen : (b : Bool) → b ≡ isSeen s j → b ≡ true → Inserted f h j l n l n
-      unfolding Seen
-      add-seen b is t =
-          record { room = omega arith; list = sym (put-again f h j (held n l) (k .rising) (k .known j (sym is ∙ t))) }
-
-      pub add-new : (l′ ks′ s′ : List ℕ) (r : ℕ) → Inserted f h j l n l′ r → InStep f h l′ ks′ r → s′ ≡ noted s j → Kept f h l′ ks′ s′ r
-      unfolding Seen
-      add-new l′ ks′ s′ r y e d =
-          record {
-            step = e;
-            rising = rw (y .list) (rise f h j (held n l) (k .rising));
-            known = λ x q. rw (y .list)
-                (⊎-elim (λ (z : x ≡ j). rw z (put-in f h j (held n l))) (λ z. keep f h j x (held n l) (k .known x z)) (noted-seen s j x (rw d at q)));
-          }
-
-pub ruleset tables = (table-none, table-over, table-count, table-of)
 
 -- ---- by keys: lower ones are passed, and before a higher one j goes
 module _ (ks : List ℕ) (n p k : ℕ) where
@@ -516,79 +376,9 @@ module _ (ys l : List ℕ) where
   unfolding Holds held
   holds-count n k e = (k, e)
 
-  held-list : (r : Names) (n : ℕ) → Holds ys l r → r ≡ Count n → held n l ≡ ys
+  pub held-list : (r : Names) (n : ℕ) → Holds ys l r → r ≡ Count n → held n l ≡ ys
   unfolding held
   held-list r n q e = count-list ys l r q n e
-
--- ---- the relocations of a section
-module _ (f : List ℕ) (h : Header) (puts : ℕ → Bool) (i : ℕ) (xs : List ℕ) where
-  pub records-none : xs ≡ externRecords f h puts i xs 0
-  unfolding foldRecords
-  records-none = refl
-
-  module _ (rs : Records) (is : rs ≡ recordsOf f h i) where
-    module _ (k n : ℕ) (l : List ℕ) (b : Bool) (x : Relocation) (read : x ≡ relocationIn f (recordAt rs k)) (does : b ≡ puts (x .symbol)) where
-      name-put : b ≡ puts (relocationSymbol f h i k)
-      name-put = does ∙ ap puts (symbol-read f h i rs x k is read)
-
-      pub records-pass : b ≡ false → held n l ≡ externRecords f h puts i xs k → held n l ≡ externRecords f h puts i xs (k + 1)
-      unfolding foldRecords externStep pick
-      records-pass t q = rw (add-one, ← name-put, t) q
-
-      module _ (r : ℕ) (a : List ℕ) (t : b ≡ true) (q : held n l ≡ externRecords f h puts i xs k) (y : Inserted f h (x .symbol) l n a r) where
-        pub records-more : held r a ≡ externRecords f h puts i xs (k + 1)
-        unfolding foldRecords externStep pick
-        records-more = rw (add-one, ← name-put, t, ← symbol-read f h i rs x k is read, ← q) (y .list)
-
-        pub records-over : (z : List ℕ) → k < rs .count → n ≤ MAX-EXTERNS → MAX-EXTERNS < length l → length a ≡ length l → MAX-EXTERNS < r
-            → Holds (externRecords f h puts i xs (relocationCount f h i)) z TooMany
-        records-over z lt few room same over =
-            holds-over (externRecords f h puts i xs (relocationCount f h i)) z
-            (omega (
-              arith,
-              held-length r a (omega (arith, y .room)),
-              ap length records-more,
-              records-grow f h puts i xs (k + 1) (relocationCount f h i) (let e = count-read f h i rs is in omega arith),
-            ))
-
-    pub records-end : (k n : ℕ) (l : List ℕ) → k ≤ rs .count → rs .count ≤ k → n ≤ MAX-EXTERNS → held n l ≡ externRecords f h puts i xs k
-        → Holds (externRecords f h puts i xs (relocationCount f h i)) l (Count n)
-    records-end k n l a b few q =
-        let e : k ≡ relocationCount f h i = let z = count-read f h i rs is in omega arith in
-        holds-count (externRecords f h puts i xs (relocationCount f h i)) l n few (rw e at q)
-
-pub ruleset records-loop = (records-none, records-pass, records-more, records-over, records-end)
-
--- ---- of all sections
-module _ (f : List ℕ) (h : Header) (puts : ℕ → Bool) where
-  externs-suc : (i n : ℕ) (l : List ℕ) → held n l ≡ externsTo f h puts i → externsTo f h puts (i + 1) ≡ externRecords f h puts i (held n l) (relocationCount f h i)
-  unfolding foldSections
-  externs-suc i n l q = rw (add-one, q)
-
-  pub externs-none : (l : List ℕ) → held 0 l ≡ externsTo f h puts 0
-  unfolding foldSections held
-  externs-none l = refl
-
-  module _ (i n : ℕ) (l a : List ℕ) (r : Names) where
-    pub externs-more : (c : ℕ) → held n l ≡ externsTo f h puts i → Holds (externRecords f h puts i (held n l) (relocationCount f h i)) a r → r ≡ Count c
-        → held c a ≡ externsTo f h puts (i + 1)
-    externs-more c q y e = held-list (externRecords f h puts i (held n l) (relocationCount f h i)) a r c y e ∙ sym (externs-suc i n l q)
-
-    pub externs-over : (m t : ℕ) (b : List ℕ) → i < m → m ≡ t → held n l ≡ externsTo f h puts i
-        → Holds (externRecords f h puts i (held n l) (relocationCount f h i)) a r → r ≡ TooMany → Holds (externsTo f h puts t) b TooMany
-    externs-over m t b lt z q y e =
-        holds-over (externsTo f h puts t) b
-        (omega (
-          arith,
-          over-length (externRecords f h puts i (held n l) (relocationCount f h i)) a r y e,
-          ap length (externs-suc i n l q),
-          sections-grow f h puts (i + 1) t (omega arith),
-        ))
-
-  pub externs-end : (i m t n : ℕ) (l : List ℕ) → i ≤ m → m ≤ i → m ≡ t → n ≤ MAX-EXTERNS → held n l ≡ externsTo f h puts i → Holds (externsTo f h puts t) l (Count n)
-  externs-end i m t n l a b z few q = let e : i ≡ t = omega arith in holds-count (externsTo f h puts t) l n few (rw e at q)
-
-pub ruleset externs-loop = (externs-none, externs-more, externs-over, externs-end, count-room)
 
 -- ---- the search in halves: the n entries from lo have the answer
 module _ (f : List ℕ) (h : Header) (name list : List ℕ) where
@@ -681,9 +471,9 @@ module _ (f : List ℕ) (h : Header) (slots : List ℕ) (j c : ℕ) (b : Bool) (
   unfolding slottedCode pick
   slot-taken x r t q p = rw (← is, t, ← q) p
 
-  pub slot-left : b ≡ false → c ≡ slottedCode c (slotOf f h slots (symbolText f h j))
+  pub slot-left : (r : ℕ) → b ≡ false → r ≡ settled c → r ≡ slottedCode c (slotOf f h slots (symbolText f h j))
   unfolding slottedCode pick
-  slot-left t = rw (← is, t)
+  slot-left r t p = rw (← is, t) p
 
 pub ruleset slot-ways = (slot-taken, slot-left)
 
@@ -731,62 +521,9 @@ module _ (l : List ℕ) (from : ℕ) where
 
 pub ruleset clear-loop = (clear-none, clear-again, clear-end)
 
-cleared : (l : List ℕ) (n : ℕ) → n ≤ length l → splice l n (replicate (length l - n) 0) ≡ take n l ++ replicate (length l - n) 0
+pub cleared : (l : List ℕ) (n : ℕ) → n ≤ length l → splice l n (replicate (length l - n) 0) ≡ take n l ++ replicate (length l - n) 0
 unfolding splice
 cleared l n k =
     let z : length {A = ℕ} (replicate (length l - n) 0) ≡ length l - n = length-replicate {A = ℕ} (length l - n) 0 in
     let w : n + length {A = ℕ} (replicate (length l - n) 0) ≡ length l = omega arith in
     sets-eq (replicate (length l - n) 0) l n (omega arith) ∙ rw (w, drop-of-length-le l (let y : length l ≤ length l = omega arith in y), append-nil)
-
-pub record Collected (f : List ℕ) (h : Header) (codes ys s codes′ : List ℕ) (r : Names) : Type 0 where
-  pub says : r ≡ namesOf ys
-  pub words : s ≡ slotWords ys
-  pub long : length s ≡ EXTERN-ROOM
-  pub slots : codes′ ≡ codesAfter f h codes ys
-
-module _ (f : List ℕ) (h : Header) (codes ys s t : List ℕ) (r : Names) (holds : Holds ys s r) (room : length s ≡ EXTERN-ROOM) where
-  pub kept-over : r ≡ TooMany → t ≡ splice s 0 (replicate (length s - 0) 0) → Collected f h codes ys t codes TooMany
-  unfolding slotWords codesAfter pick
-  kept-over e d =
-      let z : leb (length ys) MAX-EXTERNS ≡ false = lt-leb (length ys) MAX-EXTERNS (over-length ys s r holds e) in
-      let w : t ≡ replicate EXTERN-ROOM 0 = rw room at (d ∙ cleared s 0 (omega arith)) in
-      record { says = rw z; words = rw z w; long = rw w (length-replicate {A = ℕ} EXTERN-ROOM 0); slots = rw z }
-
-  -- the first n words are the list
-  front-is : (n : ℕ) → r ≡ Count n → t ≡ splice s n (replicate (length s - n) 0) → part t 0 n ≡ ys
-  unfolding part
-  front-is n e d =
-      let few = count-room ys s r holds n e in
-      let list = count-list ys s r holds n e in
-      ap (λ (x : List ℕ). take n x) (d ∙ cleared s n (omega arith)) ∙ take-at (take n s) (replicate (length s - n) 0) n (rw (length-take n s) (omega arith)) ∙ list
-
-  pub kept-few : (n : ℕ) (w codes′ : List ℕ) → r ≡ Count n → t ≡ splice s n (replicate (length s - n) 0) → w ≡ part t 0 n → codes′ ≡ slotted f h w codes
-      → Collected f h codes ys t codes′ (Count n)
-  unfolding slotWords codesAfter pick
-  kept-few n v codes′ e d q p =
-      let few = count-room ys s r holds n e in
-      let list = count-list ys s r holds n e in
-      let c : length (take n s) ≡ n = rw (length-take n s) (omega arith) in
-      let m : length ys ≡ n = rw list at c in
-      let z : leb (length ys) MAX-EXTERNS ≡ true = le-leb (length ys) MAX-EXTERNS (omega arith) in
-      let w : t ≡ ys ++ replicate (EXTERN-ROOM - n) 0 = rw (list, room) at (d ∙ cleared s n (omega arith)) in
-      record {
-        says = rw (z, m);
-        words = rw (z, m) w;
-        long = rw (w, length-append, length-replicate {A = ℕ}) (omega arith);
-        slots = rw z (p ∙ ap (λ (x : List ℕ). slotted f h x codes) (q ∙ front-is n e d));
-      }
-
--- the words that are kept rise, and the first keys are theirs
-pub front-keyed : (f : List ℕ) (h : Header) (ys s t w ks seen : List ℕ) (r : Names) (n : ℕ) → KeptFor f h s ks seen r → Holds ys s r → length s ≡ EXTERN-ROOM → r ≡ Count n
-    → t ≡ splice s n (replicate (length s - n) 0) → w ≡ part t 0 n → Keyed f h w ks
-unfolding InStep held
-front-keyed f h ys s t w ks seen r n p holds room e d q =
-    let few = count-room ys s r holds n e in
-    let k : Kept f h s ks seen n = table-of f h s ks seen r n p e in
-    let z : w ≡ take n s = q ∙ front-is f h [] ys s t r holds room n e d ∙ sym (count-list ys s r holds n e) in
-    let m : length w ≡ n = ap length z ∙ length-take-le n s (omega arith) in
-    let all : take n w ≡ take n s = ap (take n) z ∙ take-take n n s (omega arith) in
-    record { rising = rw z (k .rising); step = rw (m, all) (k .step) }
-
-pub ruleset kept = (kept-over, kept-few)

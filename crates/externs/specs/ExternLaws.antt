@@ -5,14 +5,14 @@ use mathlib.Core.Path.{_≡_, refl, sym, ap, _∙_}
 use mathlib.Core.Bool.{Bool, true, false}
 use mathlib.Core.List.{List, [], _++_}
 use mathlib.Core.Logic.{⊎-elim}
-use Prim.Native.Nat.{ℕ, _≤_, _<_, _-_}
+use Prim.Native.Nat.{ℕ, zero, suc, _≤_, _<_, _-_}
 use native.Mathlib.Nat.{le-refl}
 use native.Mathlib.Omega.{arith}
 use lib.ListN.{length, getD, take, replicate}
 use lib.Seq.{length-take-le, take-append-seam}
 use Rattle.util.specs.Pick.{pick, yes-no}
 use Rattle.util.specs.Fold as Fold
-use Rattle.util.specs.Fold.{sections-each, sections-made}
+use Rattle.util.specs.Fold.{foldRecords, sections-each, sections-made}
 use Rattle.object.specs.declared.Header.{Header}
 use Rattle.object.specs.Section.{relocationCount}
 use Rattle.object.specs.Relocation.{relocationSymbol}
@@ -78,6 +78,17 @@ module _ (f : List ℕ) (h : Header) (puts : ℕ → Bool) where
       by-put : (b : Bool) → Has f h y (pick b (insertName f h (relocationSymbol f h i k) xs) xs)
       by-put true = keep f h (relocationSymbol f h i k) y xs s
       by-put false = s
+
+  -- so do the records of a section, from a list that rises or has a name
+  pub records-rise : (i : ℕ) (xs : List ℕ) (k : ℕ) → Rising f h xs → Rising f h (externRecords f h puts i xs k)
+  unfolding foldRecords
+  records-rise i xs zero r = r
+  records-rise i xs (suc k) r = step-rise (externRecords f h puts i xs k) i k (records-rise i xs k r)
+
+  pub records-keep : (y i : ℕ) (xs : List ℕ) (k : ℕ) → Has f h y xs → Has f h y (externRecords f h puts i xs k)
+  unfolding foldRecords
+  records-keep y i xs zero s = s
+  records-keep y i xs (suc k) s = step-keep y (externRecords f h puts i xs k) i k (records-keep y i xs k s)
 
   sections-put : (i k m : ℕ) → i < m → k < relocationCount f h i → puts (relocationSymbol f h i k) ≡ true → Has f h (relocationSymbol f h i k) (externsTo f h puts m)
   unfolding externStep pick

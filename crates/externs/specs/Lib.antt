@@ -4,7 +4,7 @@ pub mod Keys
 pub mod Slot
 pub mod SlotLaws
 pub mod Inserting
-pub mod Seen
+pub mod Spent
 pub mod ExternLaws
 pub mod Bisect
 pub mod BisectLaws

@@ -1,5 +1,6 @@
 -- The codes of the symbols (crate `codes`) once the extern names are known: where a slot is looked for, which it is.
-use mathlib.Core.Bool.{Bool, _||_}
+use mathlib.Core.Path.{_≡_}
+use mathlib.Core.Bool.{Bool, true, _||_}
 use mathlib.Core.List.{List}
 use Prim.Native.Nat.{ℕ, _+_, _%_}
 use lib.Dec.{eqb, leb}
@@ -10,7 +11,7 @@ use Rattle.le.specs.Le.{splice}
 use Rattle.limits.specs.Limits.{MAX-EXTERNS}
 use Rattle.object.specs.declared.Header.{Header}
 use Rattle.names.specs.Name.{symbolText}
-use Rattle.codes.specs.Code.{SLOT, EXTERN, NO-SLOT, SPAN, SLOTS}
+use Rattle.codes.specs.Code.{SLOT, EXTERN, UNDEF-RECORD, UNDEF-EXTERN, NO-SLOT, SPAN, SLOTS}
 use Rattle.externs.specs.declared.Found.{Found}
 use Rattle.externs.specs.declared.Found.the-variants.{Index, Nothing}
 use Rattle.externs.specs.Slot.{slotOf}
@@ -24,9 +25,13 @@ foundCode Nothing = NO-SLOT
 abbrev pub takesSlot : ℕ → Bool
 takesSlot c = eqb c SLOT || eqb c EXTERN
 
+-- a code that takes no slot: nothing is put any more
+unfoldable pub settled : ℕ → ℕ
+settled c = pick (eqb c UNDEF-EXTERN) UNDEF-RECORD c
+
 -- code c once it is known which slot its name has
 unfoldable pub slottedCode : ℕ → Found → ℕ
-slottedCode c found = pick (takesSlot c) (foundCode found) c
+slottedCode c found = pick (takesSlot c) (foundCode found) (settled c)
 
 -- ---- ys are the extern names, `codes` what was kept before them
 module _ (f : List ℕ) (h : Header) (ys codes : List ℕ) where
@@ -42,6 +47,6 @@ module _ (f : List ℕ) (h : Header) (ys codes : List ℕ) where
   abbrev pub slotted : List ℕ
   slotted = splice codes 0 (slottedTo (h .symbols))
 
--- where there are too many names nothing is put
-unfoldable pub codesAfter : List ℕ → Header → List ℕ → List ℕ → List ℕ
-codesAfter f h codes ys = pick (leb (length ys) MAX-EXTERNS) (slotted f h ys codes) codes
+-- so the codes are, where there are not too many names; where there are, nobody asks for a code
+pub record CodesAfter (f : List ℕ) (h : Header) (codes ys after : List ℕ) : Type 0 where
+  pub few : leb (length ys) MAX-EXTERNS ≡ true → after ≡ slotted f h ys codes

@@ -17,12 +17,9 @@ ghost use Rattle.externs.specs.Held.{held, putAt, lowerAt, Placed, Inser
 ghost use Rattle.externs.specs.Keys.{symbolKey, KeysRise, Skipped, PutBoth, InStep, Keyed};
 ghost use Rattle.externs.specs.Bisect.{nameOrder};
 ghost use Rattle.externs.specs.Inserting.{Rising};
-ghost use Rattle.externs.specs.Seen.{isSeen, noted, Seen, Kept, KeptFor};
 ghost use Rattle.externs.specs.Slot.{slotOf};
-ghost use Rattle.externs.specs.Slotted.{foundCode, slottedCode, slottedAt, slotted, codesAfter};
-
-// The bytes of the table of symbols whose names were put: one bit a symbol.
-const SEEN: usize = limits::MAX_SYMBOLS / 8;
+ghost use Rattle.externs.specs.Spent.{spent, spend, Kept, LeftFor, Passing};
+ghost use Rattle.externs.specs.Slotted.{foundCode, settled, slottedCode, slottedAt, slotted, CodesAfter};
 
 // How many keys are passed by a look at the last of them.
 const LEAP: usize = 8;
@@ -178,103 +175,113 @@ fn insert(f: &[u8], h: Header, slots: &mut [u32], keys: &mut [u64], n: usize, j:
     }
 }
 
-// Symbol j's bit is set.
-fn is_seen(seen: &[u8], j: u32) -> bool
-    ensures { λ r. ⌜ r ≡ isSeen (now (seen .entry)) j ⌝ }
+// The code of a symbol once its name was put: the same, without putting it.
+fn spent(c: u16) -> u16
+    ensures { λ r. ⌜ r ≡ spent c ⌝ }
 {
-    let byte = le::byte_at(seen, (j / 8) as usize);
-    (byte >> (j % 8)) % 2 == 1
-}
-
-// Sets it, by adding it to the byte where it is not set.
-fn note(seen: &mut [u8], j: u32)
-    ensures { λ _. ⌜ now (seen .exit) ≡ noted (now (seen .entry)) j ⌝ }
-{
-    if !is_seen(seen, j) {
-        let at = (j / 8) as usize;
-        let byte = le::byte_at(seen, at);
-        le::put_u8(seen, at, byte + (1 << (j % 8)));
+    let undef = c == codes::UNDEF_EXTERN;
+    if undef {
+        codes::UNDEF_RECORD
+    } else {
+        codes::SLOT
     }
 }
 
-// Inserts j, unless it was seen: a second insertion would change nothing.
+// Symbol j put its name: a second insertion would change nothing.
+fn spend(h: Header, codes: &mut [u16], j: u32)
+    ensures { λ _. ⌜ now (codes .exit) ≡ spend h (now (codes .entry)) j ⌝ }
+{
+    let own = j < h.symbols;
+    if own {
+        codes::put_code(codes, j, spent(codes::code_at(codes, j)));
+    }
+}
+
+// Inserts j, once.
 fn add(
     f: &[u8],
     h: Header,
+    codes: &mut [u16],
     slots: &mut [u32],
     keys: &mut [u64],
-    seen: &mut [u8],
     n: usize,
     j: u32,
 ) -> usize
-    requires { ⌜ (n < length (now slots)) × (n < length (now keys)) × Kept (now f) h (now slots) (now keys) (now seen) n ⌝ }
+    requires { ⌜ (n < length (now slots)) × (n < length (now keys)) × Kept (now f) h (now slots) (now keys) n ⌝ }
     ensures { λ r. ⌜ Inserted (now (f .entry)) h j (now (slots .entry)) n (now (slots .exit)) r ⌝ }
-    ensures { λ r. ⌜ Kept (now (f .entry)) h (now (slots .exit)) (now (keys .exit)) (now (seen .exit)) r ⌝ }
+    ensures { λ r. ⌜ Kept (now (f .entry)) h (now (slots .exit)) (now (keys .exit)) r ⌝ }
+    ensures { λ r. ⌜ now (codes .exit) ≡ spend h (now (codes .entry)) j ⌝ }
 {
-    if is_seen(seen, j) {
-        n
-    } else {
-        let next = insert(f, h, slots, keys, n, j);
-        note(seen, j);
-        next
+    let next = insert(f, h, slots, keys, n, j);
+    spend(h, codes, j);
+    next
+}
+
+// From record k on, behind those that put no name; t has their bytes. A loop over nothing else, as most relocations of a file are passed by it.
+fn pass(t: &[u8], codes: &[u16], k: usize) -> usize
+    ensures { λ r. ⌜ Passing (now (t .entry)) (now (codes .entry)) k r ⌝ }
+{
+    let n = t.len() / object::RELOCATION_SIZE;
+    let mut q = k;
+    while q < n {
+        let at = object::RELOCATION_SIZE * q;
+        let to = at + object::RELOCATION_SIZE;
+        if codes::puts_in(codes, object::symbol_number(&t[at..to])) {
+            return q;
+        }
+        q += 1;
     }
+    q
 }
 
 // Inserts what the relocations of section i put into the first n.
 fn add_records(
     f: &[u8],
     h: Header,
-    codes: &[u16],
+    codes: &mut [u16],
     slots: &mut [u32],
     keys: &mut [u64],
-    seen: &mut [u8],
     n: usize,
     i: u32,
 ) -> Names
-    requires { ⌜ (n ≤ MAX-EXTERNS) × (MAX-EXTERNS < length (now slots)) × (MAX-EXTERNS < length (now keys)) × Kept (now f) h (now slots) (now keys) (now seen) n ⌝ }
+    requires { ⌜ (n ≤ MAX-EXTERNS) × (MAX-EXTERNS < length (now slots)) × (MAX-EXTERNS < length (now keys)) × Kept (now f) h (now slots) (now keys) n ⌝ }
     ensures { λ r.
         ⌜ Holds (externRecords (now (f .entry)) h (putsIn (now (codes .entry))) i (held n (now (slots .entry))) (relocationCount (now (f .entry)) h i)) (now (slots .exit)) r ⌝ }
-    ensures { λ r. ⌜ KeptFor (now (f .entry)) h (now (slots .exit)) (now (keys .exit)) (now (seen .exit)) r ⌝ }
+    ensures { λ r. ⌜ LeftFor (now (f .entry)) h (now (codes .entry)) (now (codes .exit)) (now (slots .exit)) (now (keys .exit)) r ⌝ }
 {
     let records = object::records_of(f, h, i);
-    let m = records.count;
+    let bytes = object::record_bytes(f, records);
+    let m = records.count as usize;
     let mut count = n;
-    let mut k: u32 = 0;
+    let mut k: usize = 0;
     while k < m {
-        let r = object::read_relocation(f, records, k);
+        let r = object::read_relocation(f, records, k as u32);
         let j = r.symbol;
         if codes::puts_in(codes, j) {
-            let next = add(f, h, slots, keys, seen, count, j);
+            let next = add(f, h, codes, slots, keys, count, j);
             if limits::MAX_EXTERNS < next {
                 return Names::TooMany;
             }
             count = next;
-            k += 1;
+            k = pass(bytes, codes, k + 1);
         } else {
-            k += 1;
+            k = pass(bytes, codes, k + 1);
         }
     }
     Names::Count(count)
 }
 
-// `keys` are those of the names that `slots` holds, `seen` symbols that have such a name.
-fn fill(
-    f: &[u8],
-    h: Header,
-    codes: &[u16],
-    slots: &mut [u32],
-    keys: &mut [u64],
-    seen: &mut [u8],
-) -> Names
-    requires { ⌜ (MAX-EXTERNS < length (now slots)) × (MAX-EXTERNS < length (now keys)) × Seen (now f) h (now seen) [] ⌝ }
+// `keys` are those of the names that `slots` holds.
+fn fill(f: &[u8], h: Header, codes: &mut [u16], slots: &mut [u32], keys: &mut [u64]) -> Names
+    requires { ⌜ (MAX-EXTERNS < length (now slots)) × (MAX-EXTERNS < length (now keys)) ⌝ }
     ensures { λ r. ⌜ Holds (externsBy (now (f .entry)) h (putsIn (now (codes .entry)))) (now (slots .exit)) r ⌝ }
-    ensures { λ r. ⌜ KeptFor (now (f .entry)) h (now (slots .exit)) (now (keys .exit)) (now (seen .exit)) r ⌝ }
+    ensures { λ r. ⌜ LeftFor (now (f .entry)) h (now (codes .entry)) (now (codes .exit)) (now (slots .exit)) (now (keys .exit)) r ⌝ }
 {
     let m = h.sections as u32;
     let mut count: usize = 0;
     let mut i: u32 = 0;
     while i < m {
-        match add_records(f, h, codes, slots, keys, seen, count, i) {
+        match add_records(f, h, codes, slots, keys, count, i) {
             Names::TooMany => {
                 return Names::TooMany;
             }
@@ -351,6 +358,14 @@ fn found_code(found: Found) -> u16
     }
 }
 
+// Of a code that takes no slot: nothing is put any more.
+fn settled(c: u16) -> u16
+    ensures { λ r. ⌜ r ≡ settled c ⌝ }
+{
+    let undef = c == codes::UNDEF_EXTERN;
+    if undef { codes::UNDEF_RECORD } else { c }
+}
+
 // Symbol j's code, once the names are known.
 fn slotted_code(f: &[u8], h: Header, slots: &[u32], keys: &[u64], j: u32, c: u16) -> u16
     requires { ⌜ Keyed (now f) h (now slots) (now keys) ⌝ }
@@ -359,7 +374,7 @@ fn slotted_code(f: &[u8], h: Header, slots: &[u32], keys: &[u64], j: u32, c: u16
     if util::either(c == codes::SLOT, c == codes::EXTERN) {
         found_code(slot_of(f, h, slots, keys, j))
     } else {
-        c
+        settled(c)
     }
 }
 
@@ -385,8 +400,8 @@ fn put_slots(f: &[u8], h: Header, slots: &[u32], keys: &[u64], codes: &mut [u16]
     }
 }
 
-// The names of all relocations, into `slots`, and how many they are, with each symbol's slot in its code; where they are too many nothing is kept.
-// The length is said again for a caller, who knows no more of a lent array than this.
+// The names of all relocations, into `slots`, and how many they are, with each symbol's slot in its code; where they are too many no slot is kept, and the codes say
+// nothing any more. The length is said again for a caller, who knows no more of a lent array than this.
 pub fn collect(
     f: &[u8],
     h: Header,
@@ -396,11 +411,10 @@ pub fn collect(
     ensures { λ r. ⌜ r ≡ namesOf (externsBy (now (f .entry)) h (putsIn (now (codes .entry)))) ⌝ }
     ensures { λ r. ⌜ now (slots .exit) ≡ slotWords (externsBy (now (f .entry)) h (putsIn (now (codes .entry)))) ⌝ }
     ensures { λ r. ⌜ length (now (slots .exit)) ≡ EXTERN-ROOM ⌝ }
-    ensures { λ r. ⌜ now (codes .exit) ≡ codesAfter (now (f .entry)) h (now (codes .entry)) (externsBy (now (f .entry)) h (putsIn (now (codes .entry)))) ⌝ }
+    ensures { λ r. ⌜ CodesAfter (now (f .entry)) h (now (codes .entry)) (externsBy (now (f .entry)) h (putsIn (now (codes .entry)))) (now (codes .exit)) ⌝ }
 {
     let mut keys = [0u64; limits::EXTERN_ROOM];
-    let mut seen = [0u8; SEEN];
-    let found = fill(f, h, codes, slots, &mut keys, &mut seen);
+    let found = fill(f, h, codes, slots, &mut keys);
     match found {
         Names::TooMany => {
             clear(slots, 0);

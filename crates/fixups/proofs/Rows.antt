@@ -219,6 +219,9 @@ passed-section a f h homes target pages i w n t r e z q l d m =
 pub passed-within : (t : Tally) (i : ℕ) → AtMost t (2 ^ 32 * i) → i < 2 ^ 16 → AtMost t (2 ^ 60)
 passed-within t i w l = within-more t (2 ^ 32 * i) (2 ^ 60) w (omega arith)
 
+pub rows-near : (t : Tally) (i n : ℕ) → AtMost t (2 ^ 32 * i) → i ≤ n → n < 2 ^ 16 → AtMost t (2 ^ 48)
+rows-near t i n w k l = within-more t (2 ^ 32 * i) (2 ^ 48) w (omega arith)
+
 pub passed-again : (a : Arch) (f : List ℕ) (h : Header) (homes : List ℕ) (target : ℕ → Target) (pages i w n : ℕ) (s r : Tally) → s ≡ rowsTo pages (outcome a f h (homeIn homes) target) (relocationCount f h) i
     → w ≡ getD homes i 0 → w ≡ 0 → n ≡ relocationCount f h i → n < 2 ^ 32 → r ≡ passedBy s n → AtMost s (2 ^ 32 * i) → r ≡ rowsTo pages (outcome a f h (homeIn homes) target) (relocationCount f h) (i + 1)
 passed-again a f h homes target pages i w n s r e k z q l d m =

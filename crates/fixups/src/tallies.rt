@@ -9,6 +9,7 @@ use object::Header;
 use object::Records;
 ghost use mathlib.Core.Path.{_≡_};
 ghost use Prim.Native.Nat.{_+_, _*_, _^_, _<_};
+ghost use Rattle.kinds.specs.Rows.{rowsOf};
 ghost use Rattle.object.specs.Section.{relocationCount};
 ghost use Rattle.object.specs.Relocation.{relocationIn, recordAt};
 ghost use Rattle.homes.specs.Home.{homeIn, wordHome};
@@ -85,10 +86,12 @@ fn with_outcome(pages: u32, t: Tally, o: Outcome) -> Tally
     }
 }
 
-// What becomes of relocation k of a section: `records` says where its records are, `word` is what is kept of its home; `homes`, `starts` and `codes` have what is
-// kept of the sections and the symbols. Each of the two passes over the relocations (the other is in `lists`) has its own, to be compiled into its loop.
+// What becomes of relocation k of a section: `records` says where its records are, `word` is what is kept of its home; `types` is the machine's table; `homes`,
+// `starts` and `codes` have what is kept of the sections and the symbols. Each of the two passes over the relocations (the other is in `lists`) has its own, to
+// be compiled into its loop.
 fn outcome_of(
     arch: Arch,
+    types: &[[u64; 3]],
     f: &[u8],
     records: Records,
     word: u32,
@@ -98,16 +101,18 @@ fn outcome_of(
     codes: &[u16],
     k: u32,
 ) -> Outcome
+    requires { ⌜ now types ≡ rowsOf arch ⌝ }
     ensures { λ r. ⌜ r ≡ byHome arch (targetIn (now (homes .entry)) (now (starts .entry)) undef (now (codes .entry))) (wordHome word) (relocationIn (now (f .entry)) (recordAt records k)) ⌝ }
 {
     let r = object::read_relocation(f, records, k);
     let target = targets::target_in(homes, starts, undef, codes, r.symbol);
-    outcomes::outcome_at(word, r.address, kinds::type_of(arch, r.typ), target)
+    outcomes::outcome_at(word, r.address, kinds::type_in(types, r.typ), target)
 }
 
 // The records of section i, one by one.
 fn with_section(
     arch: Arch,
+    types: &[[u64; 3]],
     f: &[u8],
     h: Header,
     homes: &[u32],
@@ -118,7 +123,7 @@ fn with_section(
     t: Tally,
     i: u32,
 ) -> Tally
-    requires { ⌜ (i < 2 ^ 16) × AtMost t (2 ^ 32 * i) ⌝ }
+    requires { ⌜ (now types ≡ rowsOf arch) × (i < 2 ^ 16) × AtMost t (2 ^ 32 * i) ⌝ }
     ensures { λ r. ⌜ Counted (rowTo pages (outcome arch (now (f .entry)) h (homeIn (now (homes .entry))) (targetIn (now (homes .entry)) (now (starts .entry)) undef (now (codes .entry)))) i t (relocationCount (now (f .entry)) h i)) i r ⌝ }
 {
     let records = object::records_of(f, h, i);
@@ -127,7 +132,18 @@ fn with_section(
     let mut sum = t;
     let mut k: u32 = 0;
     while k < m {
-        let o = outcome_of(arch, f, records, word, homes, starts, undef, codes, k);
+        let o = outcome_of(
+            arch,
+            types,
+            f,
+            records,
+            word,
+            homes,
+            starts,
+            undef,
+            codes,
+            k,
+        );
         sum = with_outcome(pages, sum, o);
         k += 1;
     }
@@ -148,9 +164,10 @@ fn with_passed(t: Tally, n: u32) -> Tally
     }
 }
 
-// How many relocations of the file come to each outcome; `pages` are mapped. In a section without a home all are passed, and none is read.
-pub fn tally_of(
+// The sections one by one. In one without a home all relocations are passed, and none is read.
+fn tally_with(
     arch: Arch,
+    types: &[[u64; 3]],
     f: &[u8],
     h: Header,
     homes: &[u32],
@@ -159,7 +176,9 @@ pub fn tally_of(
     codes: &[u16],
     pages: u32,
 ) -> Tally
+    requires { ⌜ now types ≡ rowsOf arch ⌝ }
     ensures { λ r. ⌜ r ≡ tallyOf pages (outcome arch (now (f .entry)) h (homeIn (now (homes .entry))) (targetIn (now (homes .entry)) (now (starts .entry)) undef (now (codes .entry)))) (relocationCount (now (f .entry)) h) (h .sections) ⌝ }
+    ensures { λ r. ⌜ AtMost r (2 ^ 48) ⌝ }
 {
     let n = h.sections as u32;
     let mut sum = Tally {
@@ -175,9 +194,47 @@ pub fn tally_of(
             sum = with_passed(sum, object::relocation_count(f, h, i));
             i += 1;
         } else {
-            sum = with_section(arch, f, h, homes, starts, undef, codes, pages, sum, i);
+            sum = with_section(
+                arch,
+                types,
+                f,
+                h,
+                homes,
+                starts,
+                undef,
+                codes,
+                pages,
+                sum,
+                i,
+            );
             i += 1;
         }
     }
     sum
+}
+
+// How many relocations of the file come to each outcome; `pages` are mapped. The table of types is made here, once for all of them.
+pub fn tally_of(
+    arch: Arch,
+    f: &[u8],
+    h: Header,
+    homes: &[u32],
+    starts: &[u32],
+    undef: u32,
+    codes: &[u16],
+    pages: u32,
+) -> Tally
+    ensures { λ r. ⌜ r ≡ tallyOf pages (outcome arch (now (f .entry)) h (homeIn (now (homes .entry))) (targetIn (now (homes .entry)) (now (starts .entry)) undef (now (codes .entry)))) (relocationCount (now (f .entry)) h) (h .sections) ⌝ }
+    ensures { λ r. ⌜ AtMost r (2 ^ 48) ⌝ }
+{
+    match arch {
+        Arch::X32 => {
+            let types = kinds::X32_TYPES;
+            tally_with(arch, &types, f, h, homes, starts, undef, codes, pages)
+        }
+        Arch::X64 => {
+            let types = kinds::X64_TYPES;
+            tally_with(arch, &types, f, h, homes, starts, undef, codes, pages)
+        }
+    }
 }

@@ -6,7 +6,6 @@ use Prim.Native.Nat.{ℕ}
 use Rattle.util.specs.Prefix.{allTo}
 use Rattle.object.specs.declared.Header.{Header}
 use Rattle.object.specs.Symbol.{allSymbols}
-use Rattle.names.specs.declared.Name.{Name}
 use Rattle.names.specs.Name.{isGood}
 use Rattle.stops.specs.Stops.{stopsOf}
 use Rattle.stops.specs.Names.{symbolNameBy, sectionNameBy}
@@ -14,11 +13,11 @@ use Rattle.stops.specs.NameLaws.{symbol-name-is, section-name-is}
 use Rattle.good_names.specs.GoodNames.{sectionNameOk, nameOk, namesOk}
 
 module _ (f : List ℕ) (h : Header) where
-  pub symbol-good : (stops : List ℕ) (j : ℕ) (x : Name) {r : Bool} → r ≡ isGood x → x ≡ symbolNameBy f h stops j → stops ≡ stopsOf f h → r ≡ nameOk f h j
-  symbol-good stops j x p e w = rw (e, symbol-name-is f h stops w j) at p
+  pub symbol-good : (stops : List ℕ) (j : ℕ) {r : Bool} → r ≡ isGood (symbolNameBy f h stops j) → stops ≡ stopsOf f h → r ≡ nameOk f h j
+  symbol-good stops j p w = rw (symbol-name-is f h stops w j) at p
 
-  pub section-good : (stops : List ℕ) (i : ℕ) (x : Name) {r : Bool} → r ≡ isGood x → x ≡ sectionNameBy f h stops i → stops ≡ stopsOf f h → r ≡ sectionNameOk f h i
-  section-good stops i x p e w = rw (e, section-name-is f h stops w i) at p
+  pub section-good : (stops : List ℕ) (i : ℕ) {r : Bool} → r ≡ isGood (sectionNameBy f h stops i) → stops ≡ stopsOf f h → r ≡ sectionNameOk f h i
+  section-good stops i p w = rw (section-name-is f h stops w i) at p
 
   pub names-are : {r s t : Bool} → r ≡ (s && t) → s ≡ allTo (sectionNameOk f h) (h .sections) → t ≡ allSymbols nameOk f h → r ≡ namesOk f h
   unfolding namesOk

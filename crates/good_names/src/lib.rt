@@ -11,7 +11,7 @@ fn symbol_ok(f: &[u8], h: Header, stops: &[u32], j: u32) -> bool
     requires { ⌜ now stops ≡ stopsOf (now f) h ⌝ }
     ensures { λ r. ⌜ r ≡ nameOk (now (f .entry)) h j ⌝ }
 {
-    names::is_good(stops::symbol_name(f, h, stops, j))
+    stops::symbol_ok(f, h, stops, j)
 }
 
 // The name of section i.
@@ -19,7 +19,7 @@ fn section_ok(f: &[u8], h: Header, stops: &[u32], i: u32) -> bool
     requires { ⌜ now stops ≡ stopsOf (now f) h ⌝ }
     ensures { λ r. ⌜ r ≡ sectionNameOk (now (f .entry)) h i ⌝ }
 {
-    names::is_good(stops::section_name(f, h, stops, i))
+    stops::section_ok(f, h, stops, i)
 }
 
 fn sections_ok(f: &[u8], h: Header, stops: &[u32]) -> bool

@@ -1,7 +1,7 @@
 -- The home of a file section: the first table record with the same file start, UNDEF's among them, whose file start is 0 (01, "Layout, slots and fixups").
 use mathlib.Core.Bool.{Bool, _&&_}
 use mathlib.Core.List.{List}
-use Prim.Native.Nat.{ℕ, zero, suc, _+_, _%_, _^_, _<_}
+use Prim.Native.Nat.{ℕ, zero, suc, _+_, _%_, _^_, _<_, max}
 use lib.Dec.{eqb, ltb}
 use lib.ListN.{getD}
 use Rattle.util.specs.Pick.{pick}
@@ -34,6 +34,15 @@ module _ (f : List ℕ) (h : Header) where
   -- section i's home
   abbrev pub homeOf : ℕ → Home
   homeOf i = homeAt (fileStart f h i)
+
+  -- `top`, or one above section i's file start, if it is loaded and that is more
+  unfoldable pub nextTop : ℕ → ℕ → ℕ
+  nextTop i top = pick (loaded f h i) (max top (fileStart f h i + 1)) top
+
+  -- one above the greatest file start of the loaded sections below i; 0 where none is loaded
+  unfoldable pub topTo : ℕ → ℕ
+  topTo zero = 0
+  topTo (suc i) = nextTop i (topTo i)
 
   -- section j is loaded and has that name
   unfoldable pub loadedNamed : List ℕ → ℕ → Bool

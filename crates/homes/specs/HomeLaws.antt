@@ -3,13 +3,13 @@ use mathlib.Core.Path.{_≡_, refl, ap, fun-ext, _∙_}
 use mathlib.Core.Bool.{Bool, true, false}
 use mathlib.Core.List.{List}
 use mathlib.Core.Logic.{⊎-elim}
-use Prim.Native.Nat.{ℕ, suc, _+_, _%_, _^_, _≤_, _<_}
-use native.Mathlib.Nat.{eq-or-lt-of-le, mod-eq-of-lt}
+use Prim.Native.Nat.{ℕ, zero, suc, _+_, _%_, _^_, _≤_, _<_, max}
+use native.Mathlib.Nat.{not-suc-le-zero, le-of-suc-le-suc, eq-or-lt-of-le, mod-eq-of-lt}
 use native.Mathlib.Numerals.{add-one}
 use native.Mathlib.Omega.{arith}
 use lib.Dec.{eqb}
 use borrow.Author.Tests.{eqb-true, eq-eqb, lt-ltb, le-ltb}
-use Rattle.util.specs.Pick.{pick, and-left, and-right, and-both, not-both, le-or-lt}
+use Rattle.util.specs.Pick.{pick, pick-either, and-left, and-right, and-both, not-both, le-or-lt}
 use Rattle.util.specs.Prefix.{list-at, list-past}
 use Rattle.limits.specs.Limits.{MAX-PAGES}
 use Rattle.arch.specs.declared.RVA.{RVA}
@@ -22,7 +22,7 @@ use Rattle.homes.specs.declared.Home.{Home}
 use Rattle.homes.specs.declared.Home.the-variants.{Loaded, Undef, Nowhere}
 use Rattle.layout.specs.Layout.{startAt, undefStart, mappedPages}
 use Rattle.layout.specs.LayoutLaws.{starts-in-order, undef-fits}
-use Rattle.homes.specs.Home.{firstIn, isHome, homeAt, homeOf, homeStart, sectionHome, homeWord, wordHome, homesTo, homeIn}
+use Rattle.homes.specs.Home.{firstIn, isHome, homeAt, homeOf, nextTop, topTo, homeStart, sectionHome, homeWord, wordHome, homesTo, homeIn}
 use Rattle.homes.specs.FirstLaws.{found-at, found-undef, found-nowhere, found-by}
 
 -- ---- what a home is
@@ -101,6 +101,46 @@ module _ (f : List ℕ) (h : Header) where
         let s = fileStart f h i in
         let r = found-nowhere (isHome f h s) (eqb s 0) (h .sections) e in
         record { other = λ z. not-both (eqb s 0) (eq-eqb s 0 z) (r .undef); none = none-starts i (h .sections) (r .none) }
+
+    undef-case : HomeUndef f h i → (x : Home) → homeOf f h i ≡ x → homeOf f h i ≡ Undef
+    undef-case r (Loaded k) e = let a = home-first k e in absurd (r .none k (a .inside) (a .loads) (a .same))
+    undef-case r Undef e = e
+    undef-case r Nowhere e = absurd (home-nowhere e .other (r .same))
+
+    nowhere-case : HomeNowhere f h i → (x : Home) → homeOf f h i ≡ x → homeOf f h i ≡ Nowhere
+    nowhere-case r (Loaded k) e = let a = home-first k e in absurd (r .none k (a .inside) (a .loads) (a .same))
+    nowhere-case r Undef e = absurd (r .other (home-undef e .same))
+    nowhere-case r Nowhere e = e
+
+    -- such a section has UNDEF as its home
+    pub undef-home : HomeUndef f h i → homeOf f h i ≡ Undef
+    undef-home r = undef-case r (homeOf f h i) refl
+
+    -- and such a section has none
+    pub nowhere-home : HomeNowhere f h i → homeOf f h i ≡ Nowhere
+    nowhere-home r = nowhere-case r (homeOf f h i) refl
+
+  -- ---- what loaded sections start below
+  top-keeps : (i top : ℕ) → top ≤ nextTop f h i top
+  unfolding nextTop
+  top-keeps i top = pick-either (λ (x : ℕ). top ≤ x) (loaded f h i) (max top (fileStart f h i + 1)) top (λ t. omega arith) (omega arith)
+
+  top-takes : (i top : ℕ) → loaded f h i ≡ true → fileStart f h i < nextTop f h i top
+  unfolding nextTop pick
+  top-takes i top t = rw t (omega arith)
+
+  -- every loaded section below n starts below that top
+  pub top-above : (n j : ℕ) → j < n → loaded f h j ≡ true → fileStart f h j < topTo f h n
+  unfolding topTo
+  top-above zero j q t = absurd (not-suc-le-zero q)
+  top-above (suc n) j q t =
+      ⊎-elim (λ e. rw e (top-takes n (topTo f h n) (rw e at t)))
+      (λ lt. let a = top-above n j lt t in let b = top-keeps n (topTo f h n) in omega arith)
+      (eq-or-lt-of-le (le-of-suc-le-suc q))
+
+  -- no loaded section starts at or above it
+  pub none-above : (i n : ℕ) → topTo f h n ≤ fileStart f h i → NoneStarts f h i n
+  none-above i n q k lt t e = let a = top-above n k lt t in omega arith
 
   -- sections with the same file start share a home
   pub same-start-share : (i j : ℕ) → fileStart f h i ≡ fileStart f h j → homeOf f h i ≡ homeOf f h j

@@ -1,6 +1,6 @@
 -- Which symbols are listed, and where (01, "Layout, slots and fixups"): those with a positive section number whose section has a home, in file
 -- order, at the home's start plus their value. `home` says where a section's home starts.
-use mathlib.Core.Path.{_≡_}
+use mathlib.Core.Path.{_≡_, refl}
 use mathlib.Core.Bool.{Bool, true, false, _&&_}
 use mathlib.Core.List.{List}
 use Prim.Native.Nat.{ℕ, _+_}
@@ -10,6 +10,7 @@ use Rattle.arch.specs.declared.Offset.{Offset}
 use Rattle.arch.specs.declared.Offset.the-variants.{At, None}
 use Rattle.object.specs.declared.Header.{Header}
 use Rattle.object.specs.declared.Symbol.{Symbol}
+use Rattle.kinds.specs.Symbol.{placeSection}
 use Rattle.kinds.specs.declared.Place.{Place}
 use Rattle.kinds.specs.declared.Place.the-variants.{In, Undefined, Common, Absolute, Nowhere, Other}
 use Rattle.object.specs.Symbol.{symbolOf, placeOf, symbolPlace, listedValue, auxiliariesLeft, primary}
@@ -50,8 +51,18 @@ listedOffset f h home j = offsetFrom (placeHome home (symbolPlace f h j)) (liste
 abbrev pub listedTotal : List ℕ → Header → (ℕ → Offset) → ℕ
 listedTotal f h home = countTo (listed f h home) (h .symbols)
 
+-- what is found for a place is what is found for its section's number
+pub of-section : {A : Type 0} (of : ℕ → A) (none : A) (p : Place) → ofPlace of none p ≡ byNumber of none (placeSection p)
+unfolding ofPlace byNumber
+of-section of none (In n) = refl
+of-section of none Undefined = refl
+of-section of none Common = refl
+of-section of none Absolute = refl
+of-section of none Nowhere = refl
+of-section of none Other = refl
+
 -- ---- as a loop tells it that counts how many auxiliary records are left
-pub listed-is : (f : List ℕ) (h : Header) (home : ℕ → Offset) (j left : ℕ) (s : Symbol) (p : Place) {r : Bool} → r ≡ (eqb left 0 && isSome (placeHome home p)) → left ≡ auxiliariesLeft f h j → p ≡ placeOf s → s ≡ symbolOf f h j
+pub listed-is : (f : List ℕ) (h : Header) (home : ℕ → Offset) (j left : ℕ) (s : Symbol) {r : Bool} → r ≡ (eqb left 0 && isSome (placeHome home (placeOf s))) → left ≡ auxiliariesLeft f h j → s ≡ symbolOf f h j
     → r ≡ listed f h home j
 unfolding listed primary
-listed-is f h home j left s p e a b c = rw (b, c, a) at e
+listed-is f h home j left s e a c = rw (c, a) at e

@@ -10,7 +10,6 @@ pub use search::fill_homes;
 pub use search::fill_records;
 pub use search::home_in;
 pub use search::home_of_number;
-pub use search::home_start;
 pub use search::named_record;
 
 // A section's home: the record of a loaded section, by that section's place in the file from 0; UNDEF's; or none.

@@ -4,12 +4,16 @@ use arch::Offset;
 use arch::RVA;
 use kinds::Place;
 use object::Header;
+use object::Symbol;
 ghost use mathlib.Core.Path.{_≡_};
 ghost use mathlib.Core.Bool.{_&&_};
 ghost use Prim.Native.Nat.{_<_, _^_};
-ghost use lib.Dec.{eqb};
+ghost use lib.Dec.{eqb, ltb};
 ghost use lib.ListN.{getD};
+ghost use Rattle.util.specs.Pick.{pick};
 ghost use Rattle.arch.specs.Address.{rva};
+ghost use Rattle.arch.specs.declared.Offset.the-variants.{None};
+ghost use Rattle.object.specs.Symbol.{placeOf};
 ghost use Rattle.homes.specs.Home.{byNumber, homeIn, Low};
 ghost use Rattle.homes.specs.Listed.{ofPlace, placeHome, isSome, offsetFrom, listedTotal};
 
@@ -52,20 +56,31 @@ pub fn record_of_place(records: &[u32], p: Place) -> u32
     }
 }
 
-fn is_some(o: Offset) -> bool
-    ensures { λ r. ⌜ r ≡ isSome o ⌝ }
+// Whether a section number has a home, by its sixteen bits: from 0x8000 on it is negative.
+fn has_home(homes: &[u32], number: u16) -> bool
+    ensures { λ r. ⌜ r ≡ isSome (byNumber (homeIn (now (homes .entry))) None (pick (ltb number 0x8000) number 0)) ⌝ }
 {
-    match o {
-        Offset::At(_) => true,
-        Offset::None => false,
+    if number == 0 {
+        return false;
+    }
+    if number < 0x8000 {
+        let word = le::word_at(homes, (number - 1) as usize);
+        word != 0
+    } else {
+        false
     }
 }
 
-// A record with the place p is a listed symbol's, if `left` auxiliary records stand from it on.
-pub fn is_listed(homes: &[u32], left: u8, p: Place) -> bool
-    ensures { λ r. ⌜ r ≡ (eqb left 0 && isSome (placeHome (homeIn (now (homes .entry))) p)) ⌝ }
+// The record s is a listed symbol's, if `left` auxiliary records stand from it on; its number alone says whether it is in a section.
+pub fn is_listed(homes: &[u32], left: u8, s: Symbol) -> bool
+    ensures { λ r. ⌜ r ≡ (eqb left 0 && isSome (placeHome (homeIn (now (homes .entry))) (placeOf s))) ⌝ }
 {
-    util::both(left == 0, is_some(place_home(homes, p)))
+    let own = left == 0;
+    if own {
+        has_home(homes, s.number)
+    } else {
+        false
+    }
 }
 
 fn offset_from(home: Offset, value: u32) -> RVA
@@ -97,7 +112,7 @@ pub fn listed_total(f: &[u8], h: Header, homes: &[u32]) -> u32
     let mut j: u32 = 0;
     while j < n {
         let s = object::read_symbol(f, h, j);
-        let found = is_listed(homes, left, object::place_of(s));
+        let found = is_listed(homes, left, s);
         left = object::left_by(left, s.auxiliaries);
         if found {
             count += 1;

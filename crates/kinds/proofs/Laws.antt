@@ -1,10 +1,12 @@
 -- The ways through the code. Assumes nothing.
 use mathlib.Core.Path.{_≡_, refl, _∙_}
 use mathlib.Core.Bool.{true, false, not}
+use mathlib.Core.List.{List, []}
 use Prim.Native.Nat.{ℕ, zero, suc, _+_, _-_, _*_, _/_, _%_, _^_, _≤_, _<_}
 use native.Mathlib.Omega.{arith}
 use native.Mathlib.Nat.{one-mul}
 use lib.Dec.{eqb, lit<}
+use lib.ListN.{getD, length}
 use lib.Pow.{shl-exact}
 use borrow.Author.Tests.{le-leb, lt-leb, lt-ltb, le-ltb}
 use mir.Syntax.{w16}
@@ -15,6 +17,9 @@ use Rattle.kinds.specs.declared.SymbolKind.the-variants.{Section}
 use Rattle.kinds.specs.declared.Place.{Place}
 use Rattle.kinds.specs.declared.Place.the-variants.{In, Undefined, Common, Absolute, Nowhere, Other}
 use Rattle.kinds.specs.Flags.{loadedBy, alignOf, permissionsBy}
+use Rattle.kinds.specs.declared.RelocationKind.{RelocationKind}
+use Rattle.kinds.specs.Types.{row, unknown, kindOfNumber}
+use Rattle.kinds.specs.Rows.{typeIn}
 use Rattle.kinds.specs.Symbol.{codeOrData, staticKind, zeroPlace, placeBy}
 
 -- ---- flags
@@ -118,3 +123,14 @@ permissions-sum x =
     let b = digit (x / 0x80000000 % 2) 2 (omega arith) in
     let c = digit (x / 0x20000000 % 2) 4 (omega arith) in
     omega arith
+
+-- ---- a row of a table
+module _ (rows : List (List ℕ)) (t : ℕ) where
+  pub in-row : (k : RelocationKind) → t < length rows → k ≡ kindOfNumber (getD (getD rows t []) 0 0)
+      → row k (getD (getD rows t []) 1 0) (getD (getD rows t []) 2 0) ≡ typeIn rows t
+  unfolding typeIn pick
+  in-row k h e = rw (lt-ltb t (length rows) h, e)
+
+  pub past-rows : length rows ≤ t → unknown ≡ typeIn rows t
+  unfolding typeIn pick
+  past-rows h = rw (le-ltb t (length rows) h)

@@ -1,10 +1,13 @@
 -- Kind and place of a symbol by the numbers of its record (01, "Records"; PE/COFF, "COFF Symbol Table").
 use mathlib.Core.Path.{_≡_, refl}
 use mathlib.Core.Bool.{Bool, _&&_, _||_, not}
-use Prim.Native.Nat.{ℕ, zero, suc, _/_, _%_}
+use Prim.Native.Nat.{ℕ, zero, suc, _-_, _/_, _%_}
+use mathlib.Core.Logic.{⊎-elim}
 use lib.IntN.{ℤ, pos, negsuc}
-use lib.Dec.{eqb}
-use Rattle.util.specs.Pick.{pick}
+use lib.Dec.{eqb, ltb}
+use mir.Syntax.{w16}
+use mir.Val.{toZ}
+use Rattle.util.specs.Pick.{pick, yes-no}
 use Rattle.kinds.specs.declared.SymbolKind.{SymbolKind}
 use Rattle.kinds.specs.declared.SymbolKind.the-variants.{Unknown, Text, Data, Section, File, Label}
 use Rattle.kinds.specs.declared.Place.{Place}
@@ -70,6 +73,32 @@ placeBy (pos (suc n)) class value = In (suc n)
 placeBy (negsuc zero) class value = Absolute
 placeBy (negsuc (suc zero)) class value = pick (eqb class CLASS-FILE) Nowhere Other
 placeBy (negsuc (suc (suc n))) class value = Other
+
+-- the number of a place's section, 0 outside the sections
+abbrev pub placeSection : Place → ℕ
+placeSection (In n) = n
+placeSection Undefined = 0
+placeSection Common = 0
+placeSection Absolute = 0
+placeSection Nowhere = 0
+placeSection Other = 0
+
+section-negative : (k class value : ℕ) → placeSection (placeBy (negsuc k) class value) ≡ 0
+unfolding placeBy pick
+section-negative zero class value = refl
+section-negative (suc zero) class value = ⊎-elim (λ t. rw t) (λ t. rw t) (yes-no (eqb class CLASS-FILE))
+section-negative (suc (suc k)) class value = refl
+
+section-positive : (n class value : ℕ) → placeSection (placeBy (pos n) class value) ≡ n
+unfolding placeBy zeroPlace pick
+section-positive zero class value = ⊎-elim (λ t. rw t) (λ t. rw t) (yes-no (eqb class CLASS-EXTERNAL && eqb value 0))
+section-positive (suc n) class value = refl
+
+-- a number as its sixteen bits stand in the record is a section's from 1 to 0x7FFF, and no other is
+pub section-by : (n class value : ℕ) → placeSection (placeBy (toZ w16 n) class value) ≡ pick (ltb n 0x8000) n 0
+unfolding pick
+section-by n class value =
+    ⊎-elim (λ t. rw t (section-positive n class value)) (λ t. rw t (section-negative (0x10000 - suc n) class value)) (yes-no (ltb n 0x8000))
 
 -- ---- listing
 -- the value that a listing adds: of class 2, 3, 6 or 105, else 0

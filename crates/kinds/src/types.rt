@@ -3,12 +3,14 @@ use crate::RelocationKind;
 use crate::RelocationType;
 use arch::Arch;
 ghost use mathlib.Core.Path.{_≡_};
-ghost use Rattle.kinds.specs.Types.{type32, type64, typeOf, kindOfNumber};
+ghost use Rattle.kinds.specs.Types.{typeOf, kindOfNumber};
+ghost use Rattle.kinds.specs.Rows.{typeIn};
 
 // The types of each machine, a row each: the kind's number, the bits and the addend. Types past the last row are unknown.
 const X32_ROWS: usize = 21;
 
-const X32_TYPES: [[u64; 3]; X32_ROWS] = [
+// The types of i386.
+pub const X32_TYPES: [[u64; 3]; X32_ROWS] = [
     [5, 0, 0],
     [4, 0, 0],
     [4, 0, 0],
@@ -34,7 +36,8 @@ const X32_TYPES: [[u64; 3]; X32_ROWS] = [
 
 const X64_ROWS: usize = 13;
 
-const X64_TYPES: [[u64; 3]; X64_ROWS] = [
+// The types of x64.
+pub const X64_TYPES: [[u64; 3]; X64_ROWS] = [
     [5, 0, 0],
     [0, 64, 0],
     [0, 32, 0],
@@ -78,32 +81,13 @@ fn kind_of(n: u64) -> RelocationKind
     }
 }
 
-fn type_32(t: u16) -> RelocationType
-    ensures { λ r. ⌜ r ≡ type32 t ⌝ }
+// Row t of a table of types. A caller with many types makes the table once.
+pub fn type_in(rows: &[[u64; 3]], t: u16) -> RelocationType
+    ensures { λ r. ⌜ r ≡ typeIn (now (rows .entry)) t ⌝ }
 {
     let i = t as usize;
-    if i < X32_ROWS {
-        let row = X32_TYPES[i];
-        RelocationType {
-            kind: kind_of(row[0]),
-            bits: row[1],
-            addend: row[2],
-        }
-    } else {
-        RelocationType {
-            kind: RelocationKind::Unknown,
-            bits: 0,
-            addend: 0,
-        }
-    }
-}
-
-fn type_64(t: u16) -> RelocationType
-    ensures { λ r. ⌜ r ≡ type64 t ⌝ }
-{
-    let i = t as usize;
-    if i < X64_ROWS {
-        let row = X64_TYPES[i];
+    if i < rows.len() {
+        let row = rows[i];
         RelocationType {
             kind: kind_of(row[0]),
             bits: row[1],
@@ -123,7 +107,13 @@ pub fn type_of(arch: Arch, t: u16) -> RelocationType
     ensures { λ r. ⌜ r ≡ typeOf arch t ⌝ }
 {
     match arch {
-        Arch::X32 => type_32(t),
-        Arch::X64 => type_64(t),
+        Arch::X32 => {
+            let rows = X32_TYPES;
+            type_in(&rows, t)
+        }
+        Arch::X64 => {
+            let rows = X64_TYPES;
+            type_in(&rows, t)
+        }
     }
 }

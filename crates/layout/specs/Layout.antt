@@ -8,6 +8,10 @@ use Rattle.arch.specs.Page.{PAGE-SIZE, pageOf}
 use Rattle.object.specs.declared.Header.{Header}
 use Rattle.object.specs.Section.{loaded, rangeLength}
 
+-- where UNDEF starts at `undef`, all pages up to its end are mapped, and one more
+abbrev pub pagesTo : ℕ → ℕ
+pagesTo undef = pageOf undef + 2
+
 module _ (f : List ℕ) (h : Header) where
   -- the page boundary behind section i, if it is loaded and starts at `at`; an unloaded one takes no room
   unfoldable pub nextStart : ℕ → ℕ → ℕ
@@ -22,9 +26,9 @@ module _ (f : List ℕ) (h : Header) where
   abbrev pub undefStart : ℕ
   undefStart = startAt (h .sections)
 
-  -- mapped are all pages up to UNDEF's end, and one more
+  -- the mapped pages
   abbrev pub mappedPages : ℕ
-  mappedPages = pageOf undefStart + 2
+  mappedPages = pagesTo undefStart
 
   -- the section table has a record for each loaded section, in file order, and UNDEF's last; section i's stands behind those of the loaded sections
   -- below i

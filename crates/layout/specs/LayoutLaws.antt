@@ -5,6 +5,7 @@ use mathlib.Core.List.{List}
 use mathlib.Core.Logic.{⊎-elim}
 use Prim.Native.Nat.{ℕ, zero, suc, _+_, _*_, _%_, _^_, _≤_, _<_}
 use native.Mathlib.Nat.{le-refl, le-trans, le-of-suc-le-suc, eq-or-lt-of-le}
+use native.Mathlib.Numerals.{add-one}
 use native.Mathlib.Omega.{arith}
 use Rattle.util.specs.Pick.{pick, yes-no, three-ways}
 use Rattle.util.specs.Align.{roundUp, up-multiple, up-not-below, up-near}
@@ -15,6 +16,15 @@ use Rattle.object.specs.Section.{loaded, rangeLength}
 use Rattle.layout.specs.Layout.{nextStart, startAt, undefStart, mappedPages}
 
 module _ (f : List ℕ) (h : Header) where
+  -- ---- as a loop keeps a start: at the first section, and one section further where nothing wraps
+  pub start-none : 0 ≡ startAt f h 0
+  unfolding startAt
+  start-none = refl
+
+  pub start-again : (i at r : ℕ) → at ≡ startAt f h i → at < 2 ^ 60 → r ≡ nextStart f h i at % 2 ^ 64 → nextStart f h i at ≤ at + 2 ^ 34 → r ≡ startAt f h (i + 1)
+  unfolding startAt
+  start-again i at r e k p q = let z : r ≡ nextStart f h i at = omega arith in rw (add-one, ← e) z
+
   -- ---- one section further
   -- behind a loaded section the next start is the page boundary at or behind its range's end
   pub loaded-takes-range : (i : ℕ) → loaded f h i ≡ true → startAt f h (suc i) ≡ roundUp (startAt f h i + rangeLength f h i) PAGE-SIZE

@@ -6,16 +6,16 @@ ghost use mathlib.Core.Path.{_≡_};
 ghost use Prim.Native.Nat.{_+_, _≤_, _%_, _^_, _<_};
 ghost use Rattle.le.specs.Le.{splice};
 ghost use Rattle.arch.specs.Address.{rva};
-ghost use Rattle.layout.specs.Layout.{nextStart, startAt, undefStart, mappedPages, recordOf, tableRecords, startsTo};
+ghost use Rattle.layout.specs.Layout.{pagesTo, nextStart, startAt, undefStart, recordOf, tableRecords, startsTo};
 
-// The page boundary behind section i, if it is loaded and starts at `at`.
-fn next_start(f: &[u8], h: Header, i: u32, at: RVA) -> RVA
-    requires { ⌜ at .0 < 2 ^ 60 ⌝ }
-    ensures { λ r. ⌜ r .0 ≡ nextStart (now (f .entry)) h i (at .0) ⌝ }
-    ensures { λ r. ⌜ r .0 ≤ at .0 + 2 ^ 34 ⌝ }
+// The page boundary behind section i, if it is loaded and starts at `at`. Past 64 bits the answer wraps; no start comes near that.
+pub fn next_start(f: &[u8], h: Header, i: u32, at: RVA) -> RVA
+    ensures { λ r. ⌜ r .0 ≡ nextStart (now (f .entry)) h i (at .0) % 2 ^ 64 ⌝ }
+    ensures { λ r. ⌜ nextStart (now (f .entry)) h i (at .0) ≤ at .0 + 2 ^ 34 ⌝ }
 {
     if object::is_loaded(f, h, i) {
-        RVA(util::align(at.0 + object::range_length(f, h, i), PAGE_SIZE))
+        let end = std::num::wrapping_add_u64(at.0, object::range_length(f, h, i));
+        RVA(util::align(end, PAGE_SIZE))
     } else {
         at
     }
@@ -43,27 +43,27 @@ pub fn undef_start(f: &[u8], h: Header) -> RVA
     start_at(f, h, h.sections)
 }
 
-// The pages that are mapped.
-pub fn mapped_pages(f: &[u8], h: Header) -> u64
-    ensures { λ r. ⌜ r ≡ mappedPages (now (f .entry)) h ⌝ }
+// The pages that are mapped, if UNDEF starts there.
+pub fn pages_to(undef: RVA) -> u64
+    ensures { λ r. ⌜ r ≡ pagesTo (undef .0) ⌝ }
 {
-    undef_start(f, h).0 / PAGE_SIZE + 2
+    undef.0 / PAGE_SIZE + 2
 }
 
-// UNDEF's start and the mapped pages in 32 bits, in which those of an image that is not too large fit.
-pub fn undef_offset(f: &[u8], h: Header) -> u32
-    ensures { λ r. ⌜ r ≡ undefStart (now (f .entry)) h % 2 ^ 32 ⌝ }
+// An offset in 32 bits, in which those of an image that is not too large fit.
+pub fn offset_word(at: RVA) -> u32
+    ensures { λ r. ⌜ r ≡ at .0 % 2 ^ 32 ⌝ }
 {
-    let at = undef_start(f, h).0 % 0x100000000;
-    at as u32
+    let low = at.0 % 0x100000000;
+    low as u32
 }
 
 // The mapped pages in 32 bits.
-pub fn page_total(f: &[u8], h: Header) -> u32
-    ensures { λ r. ⌜ r ≡ mappedPages (now (f .entry)) h % 2 ^ 32 ⌝ }
+pub fn page_word(undef: RVA) -> u32
+    ensures { λ r. ⌜ r ≡ pagesTo (undef .0) % 2 ^ 32 ⌝ }
 {
-    let pages = mapped_pages(f, h) % 0x100000000;
-    pages as u32
+    let low = pages_to(undef) % 0x100000000;
+    low as u32
 }
 
 // The record of section i in the section table: how many loaded sections stand before it.
@@ -91,17 +91,18 @@ pub fn table_records(f: &[u8], h: Header) -> u32
     record_of(f, h, h.sections) + 1
 }
 
-// The starts of all sections, a word each.
-pub fn fill_starts(f: &[u8], h: Header, starts: &mut [u32])
+// The starts of all sections, a word each; the answer is UNDEF's, which lies behind them.
+pub fn fill_starts(f: &[u8], h: Header, starts: &mut [u32]) -> RVA
     ensures { λ _. ⌜ now (starts .exit) ≡ splice (now (starts .entry)) 0 (startsTo (now (f .entry)) h (h .sections)) ⌝ }
+    ensures { λ r. ⌜ r ≡ rva (undefStart (now (f .entry)) h) ⌝ }
 {
     let n = h.sections as u32;
     let mut at: u64 = 0;
     let mut i: u32 = 0;
     while i < n {
-        let low = at % 0x100000000;
-        le::put_word(starts, i as usize, low as u32);
+        le::put_word(starts, i as usize, offset_word(RVA(at)));
         at = next_start(f, h, i, RVA(at)).0;
         i += 1;
     }
+    RVA(at)
 }

@@ -212,9 +212,6 @@ module _ (base : ℕ) (o : ℕ → ℕ → Outcome) (count : ℕ → ℕ) (b c :
       let t = rw z at s in
       record { fixes = t .written .fixes; skips = t .written .skips }
 
-  pub rows-room : (i : ℕ) (F S b′ c′ : List ℕ) (q : Rows) → Step none F S b b′ c c′ q (2 ^ 32 * i) → i < 2 ^ 16 → (i < 2 ^ 16) × (q .fixups ≤ 2 ^ 32 * i) × (q .skips ≤ 2 ^ 32 * i)
-  rows-room i F S b′ c′ q s a = (a, omega (arith, s .near .fixes), omega (arith, s .near .skips))
-
 -- no byte more or less
 pub fixes-long : (p q : Rows) (F S b b′ c c′ : List ℕ) (n : ℕ) → Step p F S b b′ c c′ q n → length b′ ≡ length b
 fixes-long p q F S b b′ c c′ n s = splice-long b b′ (FIXUP-BYTES * p .fixups) F (s .written .fixes)

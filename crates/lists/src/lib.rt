@@ -8,6 +8,7 @@ use object::Records;
 use targets::Skip;
 ghost use mathlib.Core.Path.{_≡_};
 ghost use Prim.Native.Nat.{_*_, _^_, _<_, _≤_};
+ghost use Rattle.kinds.specs.Rows.{rowsOf};
 ghost use Rattle.object.specs.Section.{relocationCount};
 ghost use Rattle.object.specs.Relocation.{relocationIn, recordAt};
 ghost use Rattle.le.specs.Le.{splice};
@@ -100,10 +101,12 @@ fn put_outcome(
     }
 }
 
-// What becomes of relocation k of a section: `records` says where its records are, `word` is what is kept of its home; `homes`, `starts` and `codes` have what is
-// kept of the sections and the symbols. Each of the two passes over the relocations (the other is in `fixups`) has its own, to be compiled into its loop.
+// What becomes of relocation k of a section: `records` says where its records are, `word` is what is kept of its home; `types` is the machine's table; `homes`,
+// `starts` and `codes` have what is kept of the sections and the symbols. Each of the two passes over the relocations (the other is in `fixups`) has its own,
+// to be compiled into its loop.
 fn outcome_of(
     arch: Arch,
+    types: &[[u64; 3]],
     f: &[u8],
     records: Records,
     word: u32,
@@ -113,16 +116,18 @@ fn outcome_of(
     codes: &[u16],
     k: u32,
 ) -> Outcome
+    requires { ⌜ now types ≡ rowsOf arch ⌝ }
     ensures { λ r. ⌜ r ≡ byHome arch (targetIn (now (homes .entry)) (now (starts .entry)) undef (now (codes .entry))) (wordHome word) (relocationIn (now (f .entry)) (recordAt records k)) ⌝ }
 {
     let r = object::read_relocation(f, records, k);
     let target = targets::target_in(homes, starts, undef, codes, r.symbol);
-    fixups::outcome_at(word, r.address, kinds::type_of(arch, r.typ), target)
+    fixups::outcome_at(word, r.address, kinds::type_in(types, r.typ), target)
 }
 
 // The records of section i, one by one.
 fn write_section(
     arch: Arch,
+    types: &[[u64; 3]],
     f: &[u8],
     h: Header,
     homes: &[u32],
@@ -135,7 +140,7 @@ fn write_section(
     fixups: &mut [u8],
     skips: &mut [u8],
 ) -> Rows
-    requires { ⌜ (i < 2 ^ 16) × (p .fixups ≤ 2 ^ 32 * i) × (p .skips ≤ 2 ^ 32 * i) ⌝ }
+    requires { ⌜ (now types ≡ rowsOf arch) × (i < 2 ^ 16) × (p .fixups ≤ 2 ^ 32 * i) × (p .skips ≤ 2 ^ 32 * i) ⌝ }
     ensures { λ r.
         ⌜ Step p
         (overRecords (fixBytesAt (base .0) (outcome arch (now (f .entry)) h (homeIn (now (homes .entry))) (targetIn (now (homes .entry)) (now (starts .entry)) undef (now (codes .entry))))) i (relocationCount (now (f .entry)) h i))
@@ -148,7 +153,18 @@ fn write_section(
     let mut q = p;
     let mut k: u32 = 0;
     while k < m {
-        let o = outcome_of(arch, f, records, word, homes, starts, undef, codes, k);
+        let o = outcome_of(
+            arch,
+            types,
+            f,
+            records,
+            word,
+            homes,
+            starts,
+            undef,
+            codes,
+            k,
+        );
         q = put_outcome(base, i, k, o, q, fixups, skips);
         k += 1;
     }
@@ -158,6 +174,7 @@ fn write_section(
 // The records of section i: without a home all are passed, and none is read.
 fn write_next(
     arch: Arch,
+    types: &[[u64; 3]],
     f: &[u8],
     h: Header,
     homes: &[u32],
@@ -170,7 +187,7 @@ fn write_next(
     fixups: &mut [u8],
     skips: &mut [u8],
 ) -> Rows
-    requires { ⌜ (i < 2 ^ 16) × (p .fixups ≤ 2 ^ 32 * i) × (p .skips ≤ 2 ^ 32 * i) ⌝ }
+    requires { ⌜ (now types ≡ rowsOf arch) × (i < 2 ^ 16) × (p .fixups ≤ 2 ^ 32 * i) × (p .skips ≤ 2 ^ 32 * i) ⌝ }
     ensures { λ r.
         ⌜ Step p
         (overRecords (fixBytesAt (base .0) (outcome arch (now (f .entry)) h (homeIn (now (homes .entry))) (targetIn (now (homes .entry)) (now (starts .entry)) undef (now (codes .entry))))) i (relocationCount (now (f .entry)) h i))
@@ -182,6 +199,7 @@ fn write_next(
     } else {
         write_section(
             arch,
+            types,
             f,
             h,
             homes,
@@ -197,7 +215,54 @@ fn write_next(
     }
 }
 
-// All fixups and all skips, in section and record order.
+// The sections one by one.
+fn write_with(
+    arch: Arch,
+    types: &[[u64; 3]],
+    f: &[u8],
+    h: Header,
+    homes: &[u32],
+    starts: &[u32],
+    undef: u32,
+    codes: &[u16],
+    base: VA,
+    fixups: &mut [u8],
+    skips: &mut [u8],
+)
+    requires { ⌜ now types ≡ rowsOf arch ⌝ }
+    ensures { λ _.
+        ⌜ BothWritten
+        (fixTable (base .0) (outcome arch (now (f .entry)) h (homeIn (now (homes .entry))) (targetIn (now (homes .entry)) (now (starts .entry)) undef (now (codes .entry)))) (relocationCount (now (f .entry)) h) (h .sections))
+        (skipTable (outcome arch (now (f .entry)) h (homeIn (now (homes .entry))) (targetIn (now (homes .entry)) (now (starts .entry)) undef (now (codes .entry)))) (relocationCount (now (f .entry)) h) (h .sections))
+        (now (fixups .entry)) (now (fixups .exit)) (now (skips .entry)) (now (skips .exit)) ⌝ }
+{
+    let n = h.sections as u32;
+    let mut q = Rows {
+        fixups: 0,
+        skips: 0,
+    };
+    let mut i: u32 = 0;
+    while i < n {
+        q = write_next(
+            arch,
+            types,
+            f,
+            h,
+            homes,
+            starts,
+            undef,
+            codes,
+            base,
+            i,
+            q,
+            fixups,
+            skips,
+        );
+        i += 1;
+    }
+}
+
+// All fixups and all skips, in section and record order. The table of types is made here, once for all of them.
 pub fn write_relocations(
     arch: Arch,
     f: &[u8],
@@ -216,27 +281,38 @@ pub fn write_relocations(
         (skipTable (outcome arch (now (f .entry)) h (homeIn (now (homes .entry))) (targetIn (now (homes .entry)) (now (starts .entry)) undef (now (codes .entry)))) (relocationCount (now (f .entry)) h) (h .sections))
         (now (fixups .entry)) (now (fixups .exit)) (now (skips .entry)) (now (skips .exit)) ⌝ }
 {
-    let n = h.sections as u32;
-    let mut q = Rows {
-        fixups: 0,
-        skips: 0,
-    };
-    let mut i: u32 = 0;
-    while i < n {
-        q = write_next(
-            arch,
-            f,
-            h,
-            homes,
-            starts,
-            undef,
-            codes,
-            base,
-            i,
-            q,
-            fixups,
-            skips,
-        );
-        i += 1;
+    match arch {
+        Arch::X32 => {
+            let types = kinds::X32_TYPES;
+            write_with(
+                arch,
+                &types,
+                f,
+                h,
+                homes,
+                starts,
+                undef,
+                codes,
+                base,
+                fixups,
+                skips,
+            );
+        }
+        Arch::X64 => {
+            let types = kinds::X64_TYPES;
+            write_with(
+                arch,
+                &types,
+                f,
+                h,
+                homes,
+                starts,
+                undef,
+                codes,
+                base,
+                fixups,
+                skips,
+            );
+        }
     }
 }

@@ -22,7 +22,7 @@ use Rattle.fixups.specs.Tally.{isFixup, isSkipped, howMany, tallyOf}
 use Rattle.refusal.specs.Refusal.{TARGET, PLACE, BASE, STORAGE}
 use Rattle.survey.specs.declared.answer.Counts.{Counts}
 use Rattle.survey.specs.declared.answer.Survey.the-variants.{Accepted}
-use Rattle.load.specs.declared.answer.Load.the-variants.{Loaded, Refused}
+use Rattle.loading.specs.declared.answer.Load.the-variants.{Loaded, Refused}
 use Rattle.homes.specs.Listed.{listedTotal}
 use Rattle.survey.specs.Survey.{Check, check, firstFailed, externChecks, targetChecks, checks, counts, countsBy, tally, outcomes, answerBy, surveyOf}
 use Rattle.survey.specs.SurveyLaws.{check-holds, checks-hold, Ordered, ordered, ordered-rest, records-rest}
@@ -40,13 +40,9 @@ use Rattle.image.specs.LaidLaws.{laid-past}
 use Rattle.checks.specs.Checks.{baseOk}
 use Rattle.plan.specs.PlanLaws.{Rooms, rooms}
 use Rattle.storage.specs.Storage.{Storage, storedBy, stored}
-use Rattle.load.specs.Load.{lengthsOf, roomOk, loadChecks, loadAnswer, Loads}
+use Rattle.loading.specs.Load.{lengthsOf, roomOk, loadChecks, loadAnswer, Loads}
 
 -- ---- an answer tells its code
-pub load-says-refused : (code : ℕ) (c : Counts) → (code ≡ 0 → ⊥) → Refused code ≡ loadAnswer code c
-unfolding loadAnswer pick
-load-says-refused code c z = rw (ne-eqb code 0 z)
-
 pub tells-loaded : (code : ℕ) (a c : Counts) → loadAnswer code a ≡ Loaded c → (code ≡ 0) × (a ≡ c)
 unfolding loadAnswer pick
 tells-loaded zero a c e = (refl, cc)

@@ -1,7 +1,7 @@
 -- The ways through the readers. Assumes nothing.
 use mathlib.Core.Path.{_≡_, _∙_}
 use mathlib.Core.Bool.{Bool, true, false, _&&_}
-use mathlib.Core.List.{List, [], _∷_}
+use mathlib.Core.List.{List}
 use Prim.Native.Nat.{ℕ, _+_, _*_, _-_, _/_, _%_, _^_, _≤_, _<_}
 use native.Mathlib.Omega.{arith}
 use native.Mathlib.Nat.{add-zero}
@@ -21,8 +21,8 @@ use Rattle.object.specs.declared.Relocation.{Relocation}
 use Rattle.object.specs.declared.Symbol.{Symbol}
 use Rattle.object.specs.Format.{SECTION-SIZE, symbolSize, RELOCATION-SIZE, HEADER-SIZE, MACHINE-AT, SECTIONS-AT, SYMBOL-POINTER-AT, SYMBOLS-AT, OPTIONAL-SIZE-AT, RELOCATION-SYMBOL-AT, RELOCATION-TYPE-AT, VALUE-AT, NUMBER-AT, TYPE-AT, CLASS-AT, AUXILIARIES-AT, headerOf, symbolRecordAt, stringTable, stringLength, rawSize, rawPointer, relocationPointer, relocationField, flags, auxiliaries}
 use Rattle.object.specs.Section.{OVERFLOW-COUNT, fileEnd, rangeLength, extended, relocationRecords, relocationCount, uninitialized}
-use Rattle.object.specs.Relocation.{relocationIn, recordsOf, recordAt}
-use Rattle.object.specs.Symbol.{symbolIn, symbolOf, kindOf, placeOf, listedOf, kind, symbolPlace, listedValue, leftAfter, auxiliariesLeft}
+use Rattle.object.specs.Relocation.{relocationIn, recordsOf, recordAt, recordBytes}
+use Rattle.object.specs.Symbol.{symbolIn, symbolOf, kindOf, placeOf, listedOf, kind, symbolPlace, listedValue, leftAfter}
 use Rattle.object.specs.SymbolLaws.{left-none, left-again, left-end}
 
 -- ---- the header
@@ -217,5 +217,10 @@ module _ (f : List ℕ) (at a s t : ℕ) where
 pub relocation-read : (f : List ℕ) (r : Records) (k : ℕ) (x : Relocation) → x ≡ relocationIn f (r .pointer + RELOCATION-SIZE * (r .first + k)) → x ≡ relocationIn f (recordAt r k)
 unfolding recordAt
 relocation-read f r k x e = e
+
+-- the bytes of all records start with those of record 0
+pub bytes-are : (f : List ℕ) (r : Records) (l : List ℕ) → l ≡ part f (r .pointer + RELOCATION-SIZE * r .first) (RELOCATION-SIZE * r .count) → l ≡ recordBytes f r
+unfolding recordBytes recordAt
+bytes-are f r l e = rw (add-zero (r .first)) e
 
 pub ruleset relocations = (first-one, first-zero, records-are, relocation-part, relocation-whole, relocation-read)

@@ -2,10 +2,11 @@
 use mathlib.Core.Path.{_≡_, ap, _∙_}
 use mathlib.Core.Bool.{Bool, true, false}
 use mathlib.Core.List.{List}
-use Prim.Native.Nat.{ℕ, _+_, _*_}
+use Prim.Native.Nat.{ℕ, _+_, _*_, _≤_}
 use native.Mathlib.Omega.{arith}
+use lib.ListN.{length, getD}
 use Rattle.util.specs.Pick.{pick}
-use Rattle.le.specs.Le.{get}
+use Rattle.le.specs.Le.{get, part, get-same, part-at, part-most}
 use Rattle.object.specs.declared.Header.{Header}
 use Rattle.object.specs.declared.Records.{Records}
 use Rattle.object.specs.declared.Relocation.{Relocation}
@@ -46,6 +47,10 @@ recordsOf f h i = record { pointer = relocationPointer f h i; first = pick (exte
 unfoldable pub recordAt : Records → ℕ → ℕ
 recordAt r k = r .pointer + RELOCATION-SIZE * (r .first + k)
 
+-- the bytes of these records, as far as the file has them
+unfoldable pub recordBytes : List ℕ → Records → List ℕ
+recordBytes f r = part f (recordAt r 0) (RELOCATION-SIZE * r .count)
+
 module _ (f : List ℕ) (h : Header) (i : ℕ) where
   places : (b : Bool) (p k : ℕ) → p + RELOCATION-SIZE * (pick b 1 0 + k) ≡ pick b (p + RELOCATION-SIZE) p + RELOCATION-SIZE * k
   unfolding pick
@@ -69,3 +74,15 @@ module _ (f : List ℕ) (h : Header) (i : ℕ) where
     pub symbol-read : r .symbol ≡ relocationSymbol f h i k
     unfolding relocationIn
     symbol-read = rw relocation-read
+
+    -- and the bytes at its place among those of all have its symbol
+    pub symbol-part : (t : List ℕ) → t ≡ recordBytes f rs → RELOCATION-SIZE * k + RELOCATION-SIZE ≤ length t → get 4 t (RELOCATION-SIZE * k + RELOCATION-SYMBOL-AT) ≡ r .symbol
+    unfolding recordBytes recordAt relocationIn
+    symbol-part t e room =
+        let b : RELOCATION-SIZE * k + RELOCATION-SIZE ≤ length (part f (rs .pointer + RELOCATION-SIZE * (rs .first + 0)) (RELOCATION-SIZE * rs .count)) = rw e at room in
+        let m = part-most f (rs .pointer + RELOCATION-SIZE * (rs .first + 0)) (RELOCATION-SIZE * rs .count) in
+        rw (e, read)
+        (get-same 4 (part f (rs .pointer + RELOCATION-SIZE * (rs .first + 0)) (RELOCATION-SIZE * rs .count)) f (RELOCATION-SIZE * k + RELOCATION-SYMBOL-AT) (rs .pointer + RELOCATION-SIZE * (rs .first + k) + RELOCATION-SYMBOL-AT)
+        (λ d p.
+        let z : rs .pointer + RELOCATION-SIZE * (rs .first + 0) + (RELOCATION-SIZE * k + RELOCATION-SYMBOL-AT + d) ≡ rs .pointer + RELOCATION-SIZE * (rs .first + k) + RELOCATION-SYMBOL-AT + d = omega arith in
+        part-at f (rs .pointer + RELOCATION-SIZE * (rs .first + 0)) (RELOCATION-SIZE * rs .count) (RELOCATION-SIZE * k + RELOCATION-SYMBOL-AT + d) (omega arith) ∙ ap (λ (y : ℕ). getD f y 0) z))

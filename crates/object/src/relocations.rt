@@ -12,9 +12,10 @@ ghost use mathlib.Core.Path.{_≡_};
 ghost use Prim.Native.Nat.{_+_, _^_, _≤_, _<_};
 ghost use lib.ListN.{length};
 ghost use Rattle.util.specs.Pick.{pick};
-ghost use Rattle.object.specs.Format.{RELOCATION-SIZE};
+ghost use Rattle.le.specs.Le.{get};
+ghost use Rattle.object.specs.Format.{RELOCATION-SIZE, RELOCATION-SYMBOL-AT};
 ghost use Rattle.object.specs.Section.{extended};
-ghost use Rattle.object.specs.Relocation.{relocationIn, recordsOf, recordAt};
+ghost use Rattle.object.specs.Relocation.{relocationIn, recordsOf, recordAt, recordBytes};
 
 // Which record is relocation 0: the one behind the count's, if there is such a one.
 fn first_record(f: &[u8], h: Header, i: u32) -> u32
@@ -70,4 +71,19 @@ pub fn read_relocation(f: &[u8], records: Records, k: u32) -> Relocation
     } else {
         read_part(f, at)
     }
+}
+
+// The bytes of these records, as far as the file has them.
+pub fn record_bytes(f: &[u8], records: Records) -> &[u8]
+    ensures { λ r. ⌜ now r ≡ recordBytes (now (f .entry)) records ⌝ }
+{
+    let at = records.pointer as usize + RELOCATION_SIZE * (records.first as usize);
+    le::part(f, at, RELOCATION_SIZE * (records.count as usize))
+}
+
+// The number of the symbol, in the bytes of one record.
+pub fn symbol_number(bytes: &[u8]) -> u32
+    ensures { λ r. ⌜ r ≡ get 4 (now (bytes .entry)) RELOCATION-SYMBOL-AT ⌝ }
+{
+    le::u32_at(bytes, RELOCATION_SYMBOL_AT)
 }

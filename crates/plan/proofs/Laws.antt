@@ -7,25 +7,28 @@ use Prim.Native.Nat.{ℕ, zero, suc, _+_, _-_, _*_, _/_, _≤_, _<_}
 use native.Mathlib.Omega.{arith}
 use native.Mathlib.Nat.{mul-comm, suc-mul, mul-le-mul-left, div-mul-le-self, lt-div-mul-add}
 use lib.Dec.{eqb, leb}
-use lib.ListN.{length, replicate, length-take, length-replicate}
+use lib.ListN.{length, replicate, length-take}
 use borrow.Author.Tests.{le-leb, lt-leb, ne-eqb, leb-true}
-use Rattle.limits.specs.Limits.{MAX-PAGES, MAX-EXTERNS, EXTERN-ROOM}
+use Rattle.limits.specs.Limits.{MAX-PAGES, MAX-EXTERNS}
 use Rattle.limits.specs.Records.{SECTION-BYTES, SYMBOL-BYTES, EXTERN-BYTES, FIXUP-BYTES, SKIP-BYTES}
 use Rattle.refusal.specs.Refusal.{PAGES, EXTERNS, TARGET, PLACE, BASE, STORAGE}
 use Rattle.util.specs.Pick.{pick, le-or-lt, leb-same}
+use Rattle.arch.specs.declared.RVA.{RVA}
+use Rattle.arch.specs.Address.{rva}
 use Rattle.arch.specs.Page.{PAGE-SIZE}
 use Rattle.le.specs.Le.{splice}
 use Rattle.marks.specs.Marks.{WORD-BYTES, wordsFor}
 use Rattle.object.specs.declared.Header.{Header}
 use Rattle.object.specs.Format.{headerOf}
-use Rattle.layout.specs.Layout.{startsTo, mappedPages, undefStart}
+use Rattle.layout.specs.Layout.{startsTo, pagesTo, mappedPages, undefStart}
 use Rattle.homes.specs.Home.{homesTo, homeIn, sectionHome}
 use Rattle.checks.specs.Checks.{pagesOk, baseOk}
+use Rattle.checks.specs.CheckLaws.{pages-are}
 use Rattle.codes.specs.Code.{codesTo}
 use Rattle.externs.specs.declared.Names.{Names}
 use Rattle.externs.specs.declared.Names.the-variants.{TooMany, Count}
 use Rattle.externs.specs.Externs.{externs, namesOf, slotWords, Holds}
-use Rattle.externs.specs.Slotted.{slotted, codesAfter}
+use Rattle.externs.specs.Slotted.{slotted, CodesAfter}
 use Rattle.externs.specs.ExternLaws.{kept-holds, over-length, count-room, count-list}
 use Rattle.targets.specs.declared.Target.{Target}
 use Rattle.targets.specs.Target.{targets}
@@ -34,10 +37,10 @@ use Rattle.fixups.specs.declared.Tally.{Tally}
 use Rattle.survey.specs.declared.answer.Counts.{Counts}
 use Rattle.survey.specs.declared.answer.Survey.{Survey}
 use Rattle.survey.specs.declared.answer.Survey.the-variants as survey
-use Rattle.survey.specs.Survey.{Check, check, firstFailed, recordChecks, externChecks, targetChecks, counts, tally, tallyBy, answerBy}
-use Rattle.survey.specs.Surveying.{Fits, plannedBy, namesIn, codeRoom, homeWords, startWords, codeWords}
+use Rattle.survey.specs.Survey.{Check, check, firstFailed, earlyChecks, pageChecks, externChecks, targetChecks, counts, tally, tallyBy, answerBy}
+use Rattle.survey.specs.Surveying.{Fits, behindPages, plannedBy, namesIn, codeRoom, homeWords, startWords, codeWords}
 use Rattle.survey.specs.TableLaws.{homes-whole, starts-front, names-whole, targets-whole}
-use Rattle.survey.specs.SurveyLaws.{check-holds, checks-hold, failed-first, Ordered, ordered, records-rest, fits-is}
+use Rattle.survey.specs.SurveyLaws.{check-holds, checks-hold, failed-first, Early, Ordered, early, early-rest, with-pages, records-rest, fits-is}
 use Rattle.plan.specs.declared.Lengths.{Lengths}
 use Rattle.plan.specs.declared.Plan.{Plan}
 use Rattle.plan.specs.declared.Plan.the-variants as plan
@@ -109,9 +112,9 @@ targets-rest : (t : Tally) (cs : List Check) → firstFailed (targetChecks t) �
 unfolding firstFailed pick
 targets-rest t cs e = let p = targets-pass t e in rw (p .0, p .1)
 
-pages-pass : (f : List ℕ) (h : Header) (cs : List Check) → mappedPages f h ≤ MAX-PAGES → firstFailed (check (pagesOk f h) PAGES ∷ cs) ≡ firstFailed cs
-unfolding firstFailed pick
-pages-pass f h cs k = rw (le-leb (mappedPages f h) MAX-PAGES k)
+pages-pass : (f : List ℕ) (h : Header) (s : Survey) → mappedPages f h ≤ MAX-PAGES → behindPages f h s ≡ s
+unfolding pick
+pages-pass f h s k = rw (le-leb (mappedPages f h) MAX-PAGES k)
 
 plan-refused : (k : ℕ) (c : Counts) (n : ℕ) → plan.Refused (suc k) ≡ planBy (suc k) c n
 unfolding planBy pick
@@ -135,7 +138,7 @@ countOf TooMany = 0
 
 -- ---- 9 and what follows
 module _ (f : List ℕ) (h : Header) (homes starts codes : List ℕ) (l : Lengths) (codes′ buf : List ℕ) (r : Names) (says : r ≡ namesOf (namesIn f h homes starts codes))
-    (words : buf ≡ slotWords (namesIn f h homes starts codes)) (coded : codes′ ≡ codesAfter f h codes (namesIn f h homes starts codes)) where
+    (words : buf ≡ slotWords (namesIn f h homes starts codes)) (coded : CodesAfter f h codes (namesIn f h homes starts codes) codes′) where
   abbrev ys : List ℕ
   ys = namesIn f h homes starts codes
 
@@ -151,25 +154,26 @@ module _ (f : List ℕ) (h : Header) (homes starts codes : List ℕ) (l : Length
       let z : leb (length ys) MAX-EXTERNS ≡ false = lt-leb (length ys) MAX-EXTERNS (over-length ys buf r holds e) in
       record { says = rw z (plan-refused (EXTERNS - 1) (plannedCounts f h (homeIn homes) target (length ys) l) (length ys)); words = words; coded = coded }
 
-  pub plan-few : (n : ℕ) (v : Survey) (x : Plan) → mappedPages f h ≤ MAX-PAGES → r ≡ Count n → v ≡ plannedBy f h (homeIn homes) (targetIn homes starts (undefStart f h) codes′) n → x ≡ withRoom v l n
+  pub plan-few : (n : ℕ) (u : RVA) (v : Survey) (x : Plan) → mappedPages f h ≤ MAX-PAGES → u ≡ rva (undefStart f h) → r ≡ Count n
+      → (u ≡ rva (undefStart f h) → v ≡ plannedBy f h (homeIn homes) (targetIn homes starts (undefStart f h) codes′) n) → x ≡ withRoom v l n
       → PlannedIn f h homes starts codes l codes′ buf x
-  unfolding firstFailed codesAfter pick countOf
-  plan-few n v x room e d y =
+  unfolding firstFailed pick countOf
+  plan-few n u v x room start e d y =
       let few = count-room ys buf r holds n e in
       let list = count-list ys buf r holds n e in
       let z : leb (length ys) MAX-EXTERNS ≡ true = le-leb (length ys) MAX-EXTERNS (rw (← list, length-take) (omega arith)) in
       let m : n ≡ length ys = ap countOf (sym e ∙ (rw z at says)) in
-      let g : codes′ ≡ slotted f h ys codes = rw z at coded in
+      let g : codes′ ≡ slotted f h ys codes = coded .few z in
       let t = tallyBy f h (homeIn homes) target in
       let c = plannedCounts f h (homeIn homes) target (length ys) l in
-      let a : v ≡ answerBy (firstFailed (targetChecks t)) c = rw (g, m) at d ∙ ap (λ (k : ℕ). answerBy k c) (pages-pass f h (targetChecks t) room) in
+      let a : v ≡ answerBy (firstFailed (targetChecks t)) c = rw (g, m) at (d start) ∙ pages-pass f h (answerBy (firstFailed (targetChecks t)) c) room in
       record { says = rw z (y ∙ ap (λ (u : Survey). withRoom u l n) a ∙ by-answer t c l n (firstFailed (targetChecks t)) refl ∙ ap (planBy (firstFailed (targetChecks t ++ roomCheck c l)) c) m); words = words; coded = coded }
 
 pub ruleset naming = (plan-over, plan-few)
 
--- ---- 12, then 1 to 8
+-- ---- 12, then 1 to 7
 module _ (f : List ℕ) (h : Header) (base : ℕ) (b : Bool) (is : b ≡ baseOk base) where
-  pub first-records : (r : ℕ) → r ≡ firstFailed (recordChecks f h) → b ≡ true → r ≡ firstFailed (firstChecks f h base)
+  pub first-records : (r : ℕ) → r ≡ firstFailed (earlyChecks f h) → b ≡ true → r ≡ firstFailed (firstChecks f h base)
   unfolding firstFailed pick
   first-records r e t = rw (← is, t) e
 
@@ -181,16 +185,10 @@ pub ruleset first = (first-records, first-base)
 
 module _ (f : List ℕ) (h : Header) (base code : ℕ) (is : code ≡ firstFailed (firstChecks f h base)) (z : code ≡ 0) where
   allowed : baseOk base ≡ true
-  allowed = check-holds (baseOk base) (BASE - 1) (recordChecks f h) (sym is ∙ z)
+  allowed = check-holds (baseOk base) (BASE - 1) (earlyChecks f h) (sym is ∙ z)
 
-  records-pass : firstFailed (recordChecks f h) ≡ 0
-  records-pass = checks-hold (baseOk base) (BASE - 1) (recordChecks f h) (sym is ∙ z)
-
-  fits-first : h ≡ headerOf f → Fits f h
-  fits-first head = fits-is f h 0 head (sym records-pass) refl
-
-  pub pages-room : h ≡ headerOf f → mappedPages f h ≤ MAX-PAGES
-  pages-room head = (fits-first head) .pages
+  seven : Early f h
+  seven = early f h [] (checks-hold (baseOk base) (BASE - 1) (earlyChecks f h) (sym is ∙ z))
 
 -- ---- the whole plan
 module _ (f : List ℕ) (h : Header) (base : ℕ) (l : Lengths) (code : ℕ) (homes₀ starts₀ codes₀ slots₀ : List ℕ) (is : code ≡ firstFailed (firstChecks f h base)) (head : h ≡ headerOf f) where
@@ -200,22 +198,30 @@ module _ (f : List ℕ) (h : Header) (base : ℕ) (l : Lengths) (code : ℕ) (ho
   abbrev whole : ℕ
   whole = firstFailed (planChecks f h base l)
 
-  no-by : (k : ℕ) → k ≡ firstFailed (firstChecks f h base) → (k ≡ 0 → ⊥) → (plan.Refused k ≡ planBy whole (counts f h) (length (externs f h))) × (whole ≡ k)
-  no-by zero e z = absurd (z refl)
-  no-by (suc k) e z =
-      let g : whole ≡ suc k = failed-first (firstChecks f h base) behind k (sym e) in
-      (rw g (plan-refused k (counts f h) (length (externs f h))), g)
-
-  pub plans-no : (code ≡ 0 → ⊥) → Blank (headerOf f) homes₀ starts₀ codes₀ slots₀ → Plans f (headerOf f) base l homes₀ starts₀ codes₀ slots₀ (plan.Refused code)
-  plans-no z blank =
-      let n = no-by code is z in
-      let p : Plans f h base l homes₀ starts₀ codes₀ slots₀ (plan.Refused code) =
-      record { says = n .0; long = rw (blank .no-slots) (length-replicate {A = ℕ} EXTERN-ROOM 0); found = λ e. absurd (z (sym (n .1) ∙ e)) } in
+  no-by : (homes starts codes slots : List ℕ) (k : ℕ) → whole ≡ suc k → Plans f (headerOf f) base l homes starts codes slots (plan.Refused (suc k))
+  no-by homes starts codes slots k g =
+      let p : Plans f h base l homes starts codes slots (plan.Refused (suc k)) =
+      record { says = rw g (plan-refused k (counts f h) (length (externs f h))); found = λ e. absurd (omega arith) } in
       rw (← head) p
 
+  first-no : (k : ℕ) → k ≡ firstFailed (firstChecks f h base) → (k ≡ 0 → ⊥) → Plans f (headerOf f) base l homes₀ starts₀ codes₀ slots₀ (plan.Refused k)
+  first-no zero e z = absurd (z refl)
+  first-no (suc k) e z = no-by homes₀ starts₀ codes₀ slots₀ k (failed-first (firstChecks f h base) (pageChecks f h ++ behind) k (sym e))
+
+  pub plans-no : (code ≡ 0 → ⊥) → Blank (headerOf f) homes₀ starts₀ codes₀ slots₀ → Plans f (headerOf f) base l homes₀ starts₀ codes₀ slots₀ (plan.Refused code)
+  plans-no z blank = first-no code is z
+
+  -- 8
+  whole-pages : code ≡ 0 → pagesOk f h ≡ false → whole ≡ PAGES
+  unfolding firstFailed pick
+  whole-pages z t = rw (allowed f h base code is z) (early-rest f h (pageChecks f h ++ behind) (seven f h base code is z) ∙ rw t)
+
+  pub plans-large : (starts : List ℕ) (b : Bool) (u : RVA) → code ≡ 0 → b ≡ leb (pagesTo (u .0)) MAX-PAGES → b ≡ false → u ≡ rva (undefStart f h)
+      → Blank (headerOf f) homes₀ starts₀ codes₀ slots₀ → Plans f (headerOf f) base l homes₀ starts codes₀ slots₀ (plan.Refused PAGES)
+  plans-large starts b u z q e start blank = no-by homes₀ starts codes₀ slots₀ (PAGES - 1) (whole-pages z (sym (pages-are f h b u q start) ∙ e))
+
   -- with the words filled, the plan by them is the one by the rules, and where it is ready they say what the rules do
-  module _ (ok : Ordered f h) (fits : Fits f h) (codes slots : List ℕ) (x : Plan) (p : PlannedIn f h (homeWords f h) (startWords f h) (codeWords f h) l codes slots x)
-      (long : length slots ≡ EXTERN-ROOM) where
+  module _ (ok : Ordered f h) (fits : Fits f h) (codes slots : List ℕ) (x : Plan) (p : PlannedIn f h (homeWords f h) (startWords f h) (codeWords f h) l codes slots x) where
     whole-plan : latePlan f h (homeIn (homeWords f h)) (targetIn (homeWords f h) (startWords f h) (undefStart f h) (slotted f h (externs f h) (codeWords f h))) (length (externs f h)) l
         ≡ latePlan f h (sectionHome f h) (targets f h) (length (externs f h)) l
     unfolding firstFailed planBy pick
@@ -226,10 +232,9 @@ module _ (f : List ℕ) (h : Header) (base : ℕ) (l : Lengths) (code : ℕ) (ho
     whole-says = (rw (names-whole f h fits) at (p .says)) ∙ whole-plan
 
     whole-found : length (externs f h) ≤ MAX-EXTERNS → Found f h (homeWords f h) (startWords f h) codes slots
-    unfolding codesAfter pick
     whole-found few =
         let z : leb (length (externs f h)) MAX-EXTERNS ≡ true = le-leb (length (externs f h)) MAX-EXTERNS few in
-        let c : codes ≡ slotted f h (externs f h) (codeWords f h) = rw z at (rw (names-whole f h fits) at (p .coded)) in
+        let c : codes ≡ slotted f h (externs f h) (codeWords f h) = (rw (names-whole f h fits) at (p .coded)) .few z in
         record {
           home = homes-whole f h fits;
           target = rw c (targets-whole f h fits (ok .numbers) few);
@@ -242,20 +247,20 @@ module _ (f : List ℕ) (h : Header) (base : ℕ) (l : Lengths) (code : ℕ) (ho
 
     whole-yes : whole ≡ firstFailed behind → Plans f h base l (homeWords f h) (startWords f h) codes slots x
     whole-yes g =
-        record { says = rw g whole-says; long = long; found = λ w. whole-found (leb-true (length (externs f h)) MAX-EXTERNS (check-holds _ _ _ (sym g ∙ w))) }
+        record { says = rw g whole-says; found = λ w. whole-found (leb-true (length (externs f h)) MAX-EXTERNS (check-holds _ _ _ (sym g ∙ w))) }
 
   whole-is : baseOk base ≡ true → Ordered f h → whole ≡ firstFailed behind
   unfolding firstFailed pick
   whole-is a o = rw a (records-rest f h behind o)
 
-  pub plans-yes : (homes starts codes codes′ slots : List ℕ) (x : Plan) → code ≡ 0 → homes ≡ splice homes₀ 0 (homesTo f h (h .sections)) → starts ≡ splice starts₀ 0 (startsTo f h (h .sections))
-      → codes ≡ splice codes₀ 0 (codesTo f h (h .symbols)) → PlannedIn f h homes starts codes l codes′ slots x → length slots ≡ EXTERN-ROOM → Blank (headerOf f) homes₀ starts₀ codes₀ slots₀ → Plans f (headerOf f) base l homes starts codes′ slots x
-  plans-yes homes starts codes codes′ slots x z e d w p long blank =
-      let o : Ordered f h = ordered f h [] (records-pass f h base code is z) in
+  pub plans-yes : (homes starts codes codes′ slots : List ℕ) (x : Plan) (b : Bool) (u : RVA) → code ≡ 0 → b ≡ leb (pagesTo (u .0)) MAX-PAGES → b ≡ true → u ≡ rva (undefStart f h) → homes ≡ splice homes₀ 0 (homesTo f h (h .sections)) → starts ≡ splice starts₀ 0 (startsTo f h (h .sections))
+      → codes ≡ splice codes₀ 0 (codesTo f h (h .symbols)) → PlannedIn f h homes starts codes l codes′ slots x → Blank (headerOf f) homes₀ starts₀ codes₀ slots₀ → Plans f (headerOf f) base l homes starts codes′ slots x
+  plans-yes homes starts codes codes′ slots x b u z t y start e d w p blank =
+      let o = with-pages f h (seven f h base code is z) (sym (pages-are f h b u t start) ∙ y) in
       let a : homes ≡ homeWords f h = rw (blank .no-homes) at e in
-      let b : starts ≡ startWords f h = rw (blank .no-starts) at d in
+      let b′ : starts ≡ startWords f h = rw (blank .no-starts) at d in
       let v : codes₀ ≡ replicate (codeRoom h) 0 = rw (← head) at (blank .no-codes) in
       let c : codes ≡ codeWords f h = rw v at w in
       let q : Plans f h base l homes starts codes′ slots x =
-      rw (a, b) (whole-yes o (fits-first f h base code is z head) codes′ slots x (rw (a, b, c) at p) long (whole-is (allowed f h base code is z) o)) in
+      rw (a, b′) (whole-yes o (fits-is f h head o) codes′ slots x (rw (a, b′, c) at p) (whole-is (allowed f h base code is z) o)) in
       rw (← head) q

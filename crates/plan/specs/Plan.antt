@@ -73,8 +73,7 @@ pub record Found (f : List ℕ) (h : Header) (homes starts codes slots : List �
   pub pages : mappedPages f h ≤ MAX-PAGES
   pub names : length (externs f h) ≤ MAX-EXTERNS
 
--- what the plan says by the checks' code, and where that is 0 what it has found; the names' array keeps its length
+-- what the plan says by the checks' code, and where that is 0 what it has found
 pub record Plans (f : List ℕ) (h : Header) (base : ℕ) (l : Lengths) (homes starts codes slots : List ℕ) (r : Plan) : Type 0 where
   pub says : r ≡ planBy (firstFailed (planChecks f h base l)) (counts f h) (length (externs f h))
-  pub long : length slots ≡ EXTERN-ROOM
   pub found : firstFailed (planChecks f h base l) ≡ 0 → Found f h homes starts codes slots

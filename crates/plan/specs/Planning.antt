@@ -11,22 +11,22 @@ use Rattle.layout.specs.Layout.{undefStart}
 use Rattle.homes.specs.Home.{homeIn}
 use Rattle.checks.specs.Checks.{baseOk}
 use Rattle.externs.specs.Externs.{slotWords}
-use Rattle.externs.specs.Slotted.{slotted, codesAfter}
+use Rattle.externs.specs.Slotted.{slotted, CodesAfter}
 use Rattle.targets.specs.declared.Target.{Target}
 use Rattle.targets.specs.Table.{targetIn}
 use Rattle.survey.specs.declared.answer.Counts.{Counts}
 use Rattle.survey.specs.declared.answer.Survey.{Survey}
 use Rattle.survey.specs.declared.answer.Survey.the-variants as survey
-use Rattle.survey.specs.Survey.{Check, check, firstFailed, recordChecks, externChecks, targetChecks, tallyBy, countsBy}
+use Rattle.survey.specs.Survey.{Check, check, firstFailed, earlyChecks, externChecks, targetChecks, tallyBy, countsBy}
 use Rattle.survey.specs.Surveying.{namesIn}
 use Rattle.plan.specs.declared.Lengths.{Lengths}
 use Rattle.plan.specs.declared.Plan.{Plan}
 use Rattle.plan.specs.declared.Plan.the-variants.{Refused, Ready}
 use Rattle.plan.specs.Plan.{roomFor, roomCheck, planBy}
 
--- 12, then 1 to 8
+-- 12, then 1 to 7
 abbrev pub firstChecks : List ℕ → Header → ℕ → List Check
-firstChecks f h base = check (baseOk base) BASE ∷ recordChecks f h
+firstChecks f h base = check (baseOk base) BASE ∷ earlyChecks f h
 
 -- 13 behind survey's answer
 unfoldable pub withRoom : Survey → Lengths → ℕ → Plan
@@ -51,4 +51,4 @@ module _ (f : List ℕ) (h : Header) (home : ℕ → Offset) (target : ℕ → T
 pub record PlannedIn (f : List ℕ) (h : Header) (homes starts codes : List ℕ) (l : Lengths) (codes′ slots : List ℕ) (r : Plan) : Type 0 where
   pub says : r ≡ latePlan f h (homeIn homes) (targetIn homes starts (undefStart f h) (slotted f h (namesIn f h homes starts codes) codes)) (length (namesIn f h homes starts codes)) l
   pub words : slots ≡ slotWords (namesIn f h homes starts codes)
-  pub coded : codes′ ≡ codesAfter f h codes (namesIn f h homes starts codes)
+  pub coded : CodesAfter f h codes (namesIn f h homes starts codes) codes′

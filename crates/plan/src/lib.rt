@@ -1,5 +1,6 @@
 // The plan of a load, made before a lent buffer is touched: 12, survey's refusals, 13, or the counts. What it finds stays in the caller's arrays.
 use arch::PAGE_SIZE;
+use arch::RVA;
 use arch::VA;
 use externs::Names;
 use object::Header;
@@ -9,8 +10,9 @@ ghost use mathlib.Core.Path.{_≡_};
 ghost use Prim.Native.Nat.{_≤_};
 ghost use lib.ListN.{length};
 ghost use Rattle.limits.specs.Limits.{MAX-PAGES, EXTERN-ROOM};
+ghost use Rattle.arch.specs.Address.{rva};
 ghost use Rattle.object.specs.Format.{headerOf};
-ghost use Rattle.layout.specs.Layout.{mappedPages};
+ghost use Rattle.layout.specs.Layout.{undefStart, mappedPages};
 ghost use Rattle.survey.specs.Survey.{firstFailed};
 ghost use Rattle.plan.specs.Plan.{layoutRoom, listsRoom, roomFor, Blank, Plans};
 ghost use Rattle.plan.specs.Planning.{firstChecks, withRoom, PlannedIn};
@@ -91,20 +93,25 @@ fn plan_names(
     l: Lengths,
     homes: &[u32],
     starts: &[u32],
+    undef: RVA,
     codes: &mut [u16],
     slots: &mut [u32; limits::EXTERN_ROOM],
 ) -> Plan
-    requires { ⌜ mappedPages (now f) h ≤ MAX-PAGES ⌝ }
+    requires { ⌜ (mappedPages (now f) h ≤ MAX-PAGES) × (undef ≡ rva (undefStart (now f) h)) ⌝ }
     ensures { λ r. ⌜ PlannedIn (now (f .entry)) h (now (homes .entry)) (now (starts .entry)) (now (codes .entry)) l (now (codes .exit)) (now (slots .exit)) r ⌝ }
     ensures { λ _. ⌜ length (now (slots .exit)) ≡ EXTERN-ROOM ⌝ }
 {
     match externs::collect(f, h, codes, slots) {
         Names::TooMany => Plan::Refused(refusal::EXTERNS),
-        Names::Count(n) => with_room(survey::survey_planned(f, h, homes, starts, codes, n), l, n),
+        Names::Count(n) => with_room(
+            survey::survey_planned(f, h, homes, starts, undef, codes, n),
+            l,
+            n,
+        ),
     }
 }
 
-// 12, then 1 to 8.
+// 12, then 1 to 7.
 fn first_code(f: &[u8], h: Header, base: VA) -> u64
     ensures { λ r. ⌜ r ≡ firstFailed (firstChecks (now (f .entry)) h (base .0)) ⌝ }
 {
@@ -116,6 +123,7 @@ fn first_code(f: &[u8], h: Header, base: VA) -> u64
 }
 
 // All refusals in their order; the arrays are the caller's, and what they then hold is told where they held zeros.
+// The length is said for a caller, who knows no more of a lent array than this.
 pub fn plan_file(
     f: &[u8],
     base: VA,
@@ -128,14 +136,19 @@ pub fn plan_file(
     ensures { λ r.
         ⌜ (Blank (headerOf (now (f .entry))) (now (homes .entry)) (now (starts .entry)) (now (codes .entry)) (now (slots .entry))
         → Plans (now (f .entry)) (headerOf (now (f .entry))) (base .0) l (now (homes .exit)) (now (starts .exit)) (now (codes .exit)) (now (slots .exit)) r) ⌝ }
+    ensures { λ _. ⌜ (length (now (slots .entry)) ≡ EXTERN-ROOM → length (now (slots .exit)) ≡ EXTERN-ROOM) ⌝ }
 {
     let h = object::read_header(f);
     let code = first_code(f, h, base);
     if code == 0 {
-        homes::fill_homes(f, h, homes);
-        layout::fill_starts(f, h, starts);
-        codes::fill_codes(f, h, codes);
-        plan_names(f, h, l, homes, starts, codes, slots)
+        let undef = layout::fill_starts(f, h, starts);
+        if checks::pages_fit(undef) {
+            homes::fill_homes(f, h, homes);
+            codes::fill_codes(f, h, codes);
+            plan_names(f, h, l, homes, starts, undef, codes, slots)
+        } else {
+            Plan::Refused(refusal::PAGES)
+        }
     } else {
         Plan::Refused(code)
     }

@@ -13,8 +13,8 @@ use Rattle.marks.specs.Marks.{WORD-BYTES, wordsFor}
 use Rattle.limits.specs.Records.{SECTION-BYTES, SYMBOL-BYTES, EXTERN-BYTES, FIXUP-BYTES, SKIP-BYTES}
 use Rattle.patch.specs.declared.answer.Patch.{Patch}
 use Rattle.patch.specs.Patch.{Patches}
-use Rattle.load.specs.declared.answer.Load.{Load}
-use Rattle.load.specs.Load.{Loads}
+use Rattle.loading.specs.declared.answer.Load.{Load}
+use Rattle.loading.specs.Load.{Loads}
 use Rattle.storage.specs.Storage.{storage}
 use Rattle.text.specs.Text.{Puts}
 use Rattle.text.specs.TextLaws.{puts-whole}

@@ -27,11 +27,11 @@ use Rattle.survey.specs.Acceptance.{counts-are, fixups-listed}
 use Rattle.patch.specs.declared.answer.Patch.{Patch}
 use Rattle.patch.specs.Fixes.{fixCount}
 use Rattle.patch.specs.Patch.{portion, patchCode, Patches}
-use Rattle.load.specs.declared.answer.Load.{Load}
-use Rattle.load.specs.declared.answer.Load.the-variants.{Loaded}
+use Rattle.loading.specs.declared.answer.Load.{Load}
+use Rattle.loading.specs.declared.answer.Load.the-variants.{Loaded}
 use Rattle.plan.specs.Plan.{layoutRoom, listsRoom}
 use Rattle.storage.specs.Storage.{Storage, storedBy, stored}
-use Rattle.load.specs.Load.{roomOk, loadChecks, loadAnswer, Loads}
+use Rattle.loading.specs.Load.{roomOk, loadChecks, loadAnswer, Loads}
 use Rattle.load.specs.LoadLaws.{load-accepts, load-leaves}
 use Rattle.demands.specs.Calls.{afterCalls}
 use Rattle.demands.specs.Origin.{fixupsOf, slotsOf}

@@ -16,10 +16,10 @@ use Rattle.survey.specs.declared.answer.Survey.the-variants as survey
 use Rattle.survey.specs.Survey.{firstFailed, checks, counts, surveyOf}
 use Rattle.words.specs.Words.{wordBytes}
 use Rattle.results.specs.Results.{COUNTS-BYTES, countsWords, PROGRESS-BYTES, progressWords}
-use Rattle.load.specs.declared.answer.Load.{Load}
-use Rattle.load.specs.declared.answer.Load.the-variants as load
+use Rattle.loading.specs.declared.answer.Load.{Load}
+use Rattle.loading.specs.declared.answer.Load.the-variants as load
 use Rattle.storage.specs.Storage.{Storage, stored}
-use Rattle.load.specs.Load.{loadChecks}
+use Rattle.loading.specs.Load.{loadChecks}
 use Rattle.patch.specs.declared.answer.Patch.{Patch}
 use Rattle.patch.specs.declared.answer.Patch.the-variants as patch
 use Rattle.patch.specs.Fixes.{fixCount, fixedFrom}

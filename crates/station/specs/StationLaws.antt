@@ -13,9 +13,9 @@ use Rattle.refusal.specs.Refusal.{STORAGE, POSITION, unlessRefused}
 use Rattle.object.specs.Format.{headerOf}
 use Rattle.survey.specs.Survey.{firstFailed, counts}
 use Rattle.results.specs.Results.{COUNTS-BYTES, PROGRESS-BYTES}
-use Rattle.load.specs.declared.answer.Load.the-variants as load
+use Rattle.loading.specs.declared.answer.Load.the-variants as load
 use Rattle.storage.specs.Storage.{Storage, stored}
-use Rattle.load.specs.Load.{loadChecks, loadAnswer, Loads}
+use Rattle.loading.specs.Load.{loadChecks, loadAnswer, Loads}
 use Rattle.patch.specs.Fixes.{fixCount, fixedFrom}
 use Rattle.patch.specs.Patch.{portion, patchCode, patchAnswer, Patches}
 use Rattle.station.specs.Station.{codeWith, patchCodeWith, untoldPatchCode, Loaded, Patched}

@@ -19,10 +19,10 @@ use Rattle.names.specs.declared.Name.the-variants.{Good, Bad}
 use Rattle.names.specs.declared.Digits.{Digits}
 use Rattle.names.specs.declared.Digits.the-variants as digits
 use Rattle.names.specs.Bytes.{visible, allVisible}
-use Rattle.names.specs.Name.{SLASH, slashOffset, sectionName}
+use Rattle.names.specs.Name.{SLASH, slashOffset, isGood}
 use Rattle.stops.specs.Stops.{EIGHT, ENOUGH, strings, stopIn, stop, BLOCK, blocksOf, stopWords, stopCount, stopsOf, stopBehind, stopBy}
 use Rattle.stops.specs.StopLaws.{VisibleTo, stop-visible, past, stop-least, stop-low, stop-same}
-use Rattle.stops.specs.Names.{mayEnd, fieldEnds, fieldTo, longBy, slashNameBy, symbolNameBy, sectionNameBy}
+use Rattle.stops.specs.Names.{mayEnd, fieldEnds, fieldBy, longBy, slashNameBy, symbolNameBy, sectionNameBy}
 
 -- ---- the string table
 module _ (f t : List ℕ) (h : Header) (k l : ℕ) (is : t ≡ part f k l) where
@@ -205,22 +205,21 @@ pub ruleset long-ways = (end-behind, end-fits, long-good, long-bad)
 
 -- ---- the name in a field
 module _ (f : List ℕ) (at s : ℕ) where
-  pub field-ends : (b : ℕ) {r x : Bool} → r ≡ (ltb at s && x) → x ≡ (eqb s (at + NAME-SIZE) || eqb b 0) → b ≡ getD f s 0 → r ≡ fieldEnds f at s
+  pub field-ends : (empty : Bool) (b : ℕ) {r x y : Bool} → r ≡ (y && x) → y ≡ (ltb at s || empty) → x ≡ (eqb s (at + NAME-SIZE) || eqb b 0) → b ≡ getD f s 0 → r ≡ fieldEnds f empty at s
   unfolding fieldEnds
-  field-ends b e d q = rw (← q, ← d) e
+  field-ends empty b e v d q = rw (← q, ← d, ← v) e
 
-  module _ (r : Bool) (says : r ≡ fieldEnds f at s) where
-    pub field-behind : r ≡ true → at ≤ s
-    unfolding fieldEnds
-    field-behind y = let l = ltb-true at s (and-left (ltb at s) _ (sym says ∙ y)) in omega arith
+  module _ (is : s ≡ stopIn f at NAME-SIZE) where
+    pub field-behind : at ≤ s
+    field-behind = let a = stop-least f at NAME-SIZE in omega arith
 
-    pub field-good : r ≡ true → s ≡ stopIn f at NAME-SIZE → Good at (s - at) ≡ fieldTo f at (stopIn f at NAME-SIZE)
+    pub field-good : (empty r : Bool) → r ≡ fieldEnds f empty at s → r ≡ true → Good at (s - at) ≡ fieldBy f empty at
     unfolding pick
-    field-good y q = rw (← q, ← says, y)
+    field-good empty r says y = rw (← is, ← says, y)
 
-    pub field-bad : r ≡ false → s ≡ stopIn f at NAME-SIZE → Bad ≡ fieldTo f at (stopIn f at NAME-SIZE)
+    pub field-bad : (empty r : Bool) → r ≡ fieldEnds f empty at s → r ≡ false → Bad ≡ fieldBy f empty at
     unfolding pick
-    field-bad y q = rw (← q, ← says, y)
+    field-bad empty r says y = rw (← is, ← says, y)
 
 pub ruleset field-ways = (field-ends, field-behind, field-good, field-bad)
 
@@ -230,7 +229,7 @@ module _ (f : List ℕ) (h : Header) (stops : List ℕ) {r : Name} where
   unfolding symbolNameBy pick
   symbol-long j at x o a e z q p = rw (← a, ← e, z, ← q) p
 
-  pub symbol-short : (j at x : ℕ) → at ≡ symbolRecordAt h j → x ≡ get 4 f at → eqb x 0 ≡ false → r ≡ fieldTo f at (stopIn f at NAME-SIZE) → r ≡ symbolNameBy f h stops j
+  pub symbol-short : (j at x : ℕ) → at ≡ symbolRecordAt h j → x ≡ get 4 f at → eqb x 0 ≡ false → r ≡ fieldBy f false at → r ≡ symbolNameBy f h stops j
   unfolding symbolNameBy pick
   symbol-short j at x a e z p = let y : eqb (get 4 f (symbolRecordAt h j)) 0 ≡ false = rw (← a, ← e) z in rw y (rw a at p)
 
@@ -242,12 +241,47 @@ module _ (f : List ℕ) (h : Header) (stops : List ℕ) {r : Name} where
   unfolding sectionNameBy pick
   section-slash i at b d a e z q p = let y : eqb (getD f (sectionHeaderAt h i) 0) SLASH ≡ true = rw (← a, ← e) z in rw (y, ← q) p
 
-  pub section-short : (i at b : ℕ) → at ≡ sectionHeaderAt h i → b ≡ getD f at 0 → eqb b SLASH ≡ false → r ≡ sectionName f h i → r ≡ sectionNameBy f h stops i
+  pub section-short : (i at b : ℕ) → at ≡ sectionHeaderAt h i → b ≡ getD f at 0 → eqb b SLASH ≡ false → r ≡ fieldBy f true at → r ≡ sectionNameBy f h stops i
   unfolding sectionNameBy pick
-  section-short i at b a e z p = let y : eqb (getD f (sectionHeaderAt h i) 0) SLASH ≡ false = rw (← a, ← e) z in rw y p
+  section-short i at b a e z p = let y : eqb (getD f (sectionHeaderAt h i) 0) SLASH ≡ false = rw (← a, ← e) z in rw y (rw a at p)
 
 pub slash-bad : (f : List ℕ) (h : Header) (stops : List ℕ) (d : Digits) → d ≡ digits.Bad → Bad ≡ slashNameBy f h stops d
 unfolding slashNameBy
 slash-bad f h stops d e = rw e
 
 pub ruleset name-ways = (symbol-long, symbol-short, slash-long, slash-bad, section-slash, section-short)
+
+-- ---- the same as tests
+good-by : (b : Bool) (at n : ℕ) → isGood (pick b (Good at n) Bad) ≡ b
+unfolding pick
+good-by true at n = refl
+good-by false at n = refl
+
+pub long-test : (f : List ℕ) (h : Header) (stops t : List ℕ) (n k o s : ℕ) (empty : Bool) {r : Bool} → n ≡ stringLength f h → k ≡ stringTable h → t ≡ part f k n → s ≡ stopBy t stops o → r ≡ mayEnd t n empty o s
+    → r ≡ isGood (longBy f h stops empty o)
+long-test f h stops t n k o s empty said at table ends says = rw (← said, ← at, ← table, ← ends) (says ∙ sym (good-by (mayEnd t n empty o s) (k + o) (s - o)))
+
+pub field-test : (f : List ℕ) (at s : ℕ) (empty : Bool) {r : Bool} → s ≡ stopIn f at NAME-SIZE → r ≡ fieldEnds f empty at s → r ≡ isGood (fieldBy f empty at)
+field-test f at s empty is says = rw (← is) (says ∙ sym (good-by (fieldEnds f empty at s) at (s - at)))
+
+module _ (f : List ℕ) (h : Header) (stops : List ℕ) {r : Bool} where
+  pub symbol-long-test : (j at x o : ℕ) → at ≡ symbolRecordAt h j → x ≡ get 4 f at → eqb x 0 ≡ true → o ≡ get 4 f (at + LONG-OFFSET-AT) → r ≡ isGood (longBy f h stops false o) → r ≡ isGood (symbolNameBy f h stops j)
+  symbol-long-test j at x o a e z q p = p ∙ ap isGood (symbol-long f h stops j at x o a e z q refl)
+
+  pub symbol-short-test : (j at x : ℕ) → at ≡ symbolRecordAt h j → x ≡ get 4 f at → eqb x 0 ≡ false → r ≡ isGood (fieldBy f false at) → r ≡ isGood (symbolNameBy f h stops j)
+  symbol-short-test j at x a e z p = p ∙ ap isGood (symbol-short f h stops j at x a e z refl)
+
+  pub slash-long-test : (d : Digits) (o : ℕ) → d ≡ digits.Offset o → r ≡ isGood (longBy f h stops true o) → r ≡ isGood (slashNameBy f h stops d)
+  slash-long-test d o e p = p ∙ ap isGood (slash-long f h stops d o e refl)
+
+  pub section-slash-test : (i at b : ℕ) (d : Digits) → at ≡ sectionHeaderAt h i → b ≡ getD f at 0 → eqb b SLASH ≡ true → d ≡ slashOffset f (sectionHeaderAt h i) → r ≡ isGood (slashNameBy f h stops d)
+      → r ≡ isGood (sectionNameBy f h stops i)
+  section-slash-test i at b d a e z q p = p ∙ ap isGood (section-slash f h stops i at b d a e z q refl)
+
+  pub section-short-test : (i at b : ℕ) → at ≡ sectionHeaderAt h i → b ≡ getD f at 0 → eqb b SLASH ≡ false → r ≡ isGood (fieldBy f true at) → r ≡ isGood (sectionNameBy f h stops i)
+  section-short-test i at b a e z p = p ∙ ap isGood (section-short f h stops i at b a e z refl)
+
+pub slash-bad-test : (f : List ℕ) (h : Header) (stops : List ℕ) (d : Digits) → d ≡ digits.Bad → false ≡ isGood (slashNameBy f h stops d)
+slash-bad-test f h stops d e = ap isGood (slash-bad f h stops d e)
+
+pub ruleset name-tests = (symbol-long-test, symbol-short-test, slash-long-test, slash-bad-test, section-slash-test, section-short-test)

@@ -5,7 +5,7 @@ use mathlib.Core.List.{List}
 use mathlib.Core.Logic.{⊎-elim}
 use Prim.Native.Nat.{ℕ, _+_, _-_, _≤_, _<_}
 use native.Mathlib.Omega.{arith}
-use borrow.Author.Tests.{lt-ltb, le-ltb, ltb-true, eq-eqb, ne-eqb, eqb-true, not-true}
+use borrow.Author.Tests.{lt-ltb, le-ltb, ltb-true, eq-eqb, ne-eqb, eqb-true}
 use lib.ListN.{length, getD, replicate}
 use lib.Dec.{ltb, leb, eqb}
 use Rattle.util.specs.Pick.{pick, yes-no, le-or-lt, three-ways, not-both, both-ways, and-left, and-right, and-both, or-left, or-right, not-of-false}
@@ -13,7 +13,6 @@ use Rattle.util.specs.Prefix.{all-at, all-of}
 use Rattle.le.specs.Le.{get, part, splice, part-at, part-most, filled}
 use Rattle.object.specs.declared.Header.{Header}
 use Rattle.object.specs.Format.{NAME-SIZE, LONG-OFFSET-AT, LENGTH-SIZE, stringTable, stringLength, sectionHeaderAt, symbolRecordAt}
-use Rattle.names.specs.declared.Name.{Name}
 use Rattle.names.specs.declared.Name.the-variants.{Good, Bad}
 use Rattle.names.specs.declared.Digits.{Digits}
 use Rattle.names.specs.declared.Digits.the-variants as digits
@@ -22,7 +21,7 @@ use Rattle.names.specs.Name.{shortRun, longRun, symbolRun, sectionRun, SLASH, s
 use Rattle.names.specs.NameLaws.{run-most, run-zero, run-before, run-long, slash-is}
 use Rattle.stops.specs.Stops.{strings, stopIn, stop, BLOCKS, stopCount, stopsOf}
 use Rattle.stops.specs.StopLaws.{stop-least, stop-most, stop-seen, stop-end, stop-is, stop-ends, stop-noted}
-use Rattle.stops.specs.Names.{mayEnd, fieldEnds, fieldTo, longTo, longBy, slashNameBy, symbolNameBy, sectionNameBy}
+use Rattle.stops.specs.Names.{mayEnd, fieldEnds, fieldBy, longTo, longBy, slashNameBy, symbolNameBy, sectionNameBy}
 
 -- ---- what a run is
 run-is : (f : List ℕ) (i n r : ℕ) → r < n → ((k : ℕ) → k < r → getD f (i + k) 0 ≡ 0 → ⊥) → getD f (i + r) 0 ≡ 0 → run f i n ≡ r
@@ -176,7 +175,7 @@ section-rule : (p : List ℕ) → goodSectionName p ≡ ((true || not (eqb (leng
 unfolding goodSectionName
 section-rule p = refl
 
--- ---- a symbol's name in its field: what the stop says of it is what the rule says of its run
+-- ---- a name in its field: what the stop says of it is what the rule says of its run
 module _ (f : List ℕ) (at : ℕ) where
   abbrev S₈ : ℕ
   S₈ = stopIn f at NAME-SIZE
@@ -190,82 +189,104 @@ module _ (f : List ℕ) (at : ℕ) where
   seen-not-zero : (k : ℕ) → visible (getD f k 0) ≡ true → getD f k 0 ≡ 0 → ⊥
   seen-not-zero k v z = not-both (visible (getD f k 0)) v (ap visible z)
 
-  field-some : fieldEnds f at S₈ ≡ true → at < S₈
-  unfolding fieldEnds
-  field-some e = ltb-true at S₈ (and-left (ltb at S₈) _ e)
-
-  field-run : fieldEnds f at S₈ ≡ true → R₈ ≡ S₈ - at
+module _ (good : List ℕ → Bool) (empty : Bool) (rule : (p : List ℕ) → good p ≡ ((empty || not (eqb (length p) 0)) && allVisible p)) (f : List ℕ) (at : ℕ) where
+  field-run : fieldEnds f empty at (S₈ f at) ≡ true → R₈ f at ≡ S₈ f at - at
   unfolding fieldEnds
   field-run e =
-      let a = field-some e in
+      let a = stop-least f at NAME-SIZE in
       let m = run-most f at NAME-SIZE in
       let w = stop-most f at NAME-SIZE in
-      let ends = and-right (ltb at S₈) (eqb S₈ (at + NAME-SIZE) || eqb (getD f S₈ 0) 0) e in
+      let ends = and-right (ltb at (S₈ f at) || empty) (eqb (S₈ f at) (at + NAME-SIZE) || eqb (getD f (S₈ f at) 0) 0) e in
       ⊎-elim
-      (λ (q : R₈ < S₈ - at). absurd (seen-not-zero (at + R₈) (stop-seen f at NAME-SIZE (at + R₈) (omega arith) (omega arith)) (run-zero f at NAME-SIZE (omega arith))))
-      (⊎-elim (λ (q : R₈ ≡ S₈ - at). q)
-      (λ (q : S₈ - at < R₈).
-      let n : eqb S₈ (at + NAME-SIZE) ≡ false = ne-eqb S₈ (at + NAME-SIZE) (λ (x : S₈ ≡ at + NAME-SIZE). absurd (omega arith)) in
-      let z : eqb (getD f S₈ 0) 0 ≡ true = rw n at ends in
-      let d : at + (S₈ - at) ≡ S₈ = omega arith in
-      absurd (run-before f at NAME-SIZE (S₈ - at) q (rw d (eqb-true _ _ z)))))
-      (three-ways R₈ (S₈ - at))
+      (λ (q : R₈ f at < S₈ f at - at). absurd (seen-not-zero f at (at + R₈ f at) (stop-seen f at NAME-SIZE (at + R₈ f at) (omega arith) (omega arith)) (run-zero f at NAME-SIZE (omega arith))))
+      (⊎-elim (λ (q : R₈ f at ≡ S₈ f at - at). q)
+      (λ (q : S₈ f at - at < R₈ f at).
+      let n : eqb (S₈ f at) (at + NAME-SIZE) ≡ false = ne-eqb (S₈ f at) (at + NAME-SIZE) (λ (x : S₈ f at ≡ at + NAME-SIZE). absurd (omega arith)) in
+      let z : eqb (getD f (S₈ f at) 0) 0 ≡ true = rw n at ends in
+      let d : at + (S₈ f at - at) ≡ S₈ f at = omega arith in
+      absurd (run-before f at NAME-SIZE (S₈ f at - at) q (rw d (eqb-true _ _ z)))))
+      (three-ways (R₈ f at) (S₈ f at - at))
 
-  field-good : fieldEnds f at S₈ ≡ true → goodSymbolName P₈ ≡ true
-  unfolding goodSymbolName
+  field-good : fieldEnds f empty at (S₈ f at) ≡ true → good (P₈ f at) ≡ true
+  unfolding fieldEnds
   field-good e =
       let r = field-run e in
-      let a = field-some e in
+      let a = stop-least f at NAME-SIZE in
       let l = run-long f at NAME-SIZE in
-      and-both (not (eqb (length P₈) 0)) (allVisible P₈) (not-of-false _ (ne-eqb (length P₈) 0 (λ (x : length P₈ ≡ 0). absurd (omega arith))))
-      (all-of (λ k. visible (getD P₈ k 0)) (length P₈)
-      (λ k b. ap visible (part-at f at R₈ k (omega arith)) ∙ stop-seen f at NAME-SIZE (at + k) (omega arith) (omega arith)))
+      let far = and-left (ltb at (S₈ f at) || empty) (eqb (S₈ f at) (at + NAME-SIZE) || eqb (getD f (S₈ f at) 0) 0) e in
+      let n : (empty || not (eqb (length (P₈ f at)) 0)) ≡ true =
+      ⊎-elim (λ (y : S₈ f at ≤ at). or-left empty (not (eqb (length (P₈ f at)) 0)) (rw (le-ltb at (S₈ f at) y) at far))
+      (λ (q : at < S₈ f at).
+      or-right empty (not (eqb (length (P₈ f at)) 0)) (not-of-false _ (ne-eqb (length (P₈ f at)) 0 (λ (x : length (P₈ f at) ≡ 0). absurd (omega arith)))))
+      (le-or-lt (S₈ f at) at)
+      in
+      rule (P₈ f at)
+      ∙ and-both _ _ n
+      (all-of (λ k. visible (getD (P₈ f at) k 0)) (length (P₈ f at))
+      (λ k b. ap visible (part-at f at (R₈ f at) k (omega arith)) ∙ stop-seen f at NAME-SIZE (at + k) (omega arith) (omega arith)))
 
-  good-field : goodSymbolName P₈ ≡ true → fieldEnds f at S₈ ≡ true
-  unfolding goodSymbolName fieldEnds
+  good-field : good (P₈ f at) ≡ true → fieldEnds f empty at (S₈ f at) ≡ true
+  unfolding fieldEnds
   good-field e =
       let l = run-long f at NAME-SIZE in
       let m = run-most f at NAME-SIZE in
       let w = stop-most f at NAME-SIZE in
       let b = stop-least f at NAME-SIZE in
-      let some : 0 < R₈ = ⊎-elim (λ (q : R₈ ≤ 0). let z : eqb (length P₈) 0 ≡ true = eq-eqb (length P₈) 0 (omega arith) in not-both (eqb (length P₈) 0) z (not-true (eqb (length P₈) 0) (and-left (not (eqb (length P₈) 0)) (allVisible P₈) e))) (λ q. q) (le-or-lt R₈ 0) in
-      let seen : (k : ℕ) → k < R₈ → visible (getD f (at + k) 0) ≡ true =
-      λ k q. ap visible (sym (part-at f at R₈ k q)) ∙ all-at (λ i. visible (getD P₈ i 0)) (length P₈) k (and-right (not (eqb (length P₈) 0)) (allVisible P₈) e) (omega arith) in
-      let same : S₈ ≡ at + R₈ =
+      let g : ((empty || not (eqb (length (P₈ f at)) 0)) && allVisible (P₈ f at)) ≡ true = sym (rule (P₈ f at)) ∙ e in
+      let some = and-left (empty || not (eqb (length (P₈ f at)) 0)) (allVisible (P₈ f at)) g in
+      let all = and-right (empty || not (eqb (length (P₈ f at)) 0)) (allVisible (P₈ f at)) g in
+      let seen : (k : ℕ) → k < R₈ f at → visible (getD f (at + k) 0) ≡ true =
+      λ k q. ap visible (sym (part-at f at (R₈ f at) k q)) ∙ all-at (λ i. visible (getD (P₈ f at) i 0)) (length (P₈ f at)) k all (omega arith) in
+      let same : S₈ f at ≡ at + R₈ f at =
       ⊎-elim
-      (λ (q : S₈ < at + R₈).
-      let d : at + (S₈ - at) ≡ S₈ = omega arith in
-      absurd (not-both (visible (getD f S₈ 0)) (rw d at (seen (S₈ - at) (omega arith))) (stop-end f at NAME-SIZE (omega arith))))
-      (⊎-elim (λ (q : S₈ ≡ at + R₈). q)
-      (λ (q : at + R₈ < S₈). absurd (seen-not-zero (at + R₈) (stop-seen f at NAME-SIZE (at + R₈) (omega arith) q) (run-zero f at NAME-SIZE (omega arith)))))
-      (three-ways S₈ (at + R₈)) in
-      and-both (ltb at S₈) _ (lt-ltb at S₈ (omega arith))
-      (⊎-elim (λ (q : NAME-SIZE ≤ R₈). or-left (eqb S₈ (at + NAME-SIZE)) _ (eq-eqb S₈ (at + NAME-SIZE) (omega arith)))
-      (λ (q : R₈ < NAME-SIZE). or-right (eqb S₈ (at + NAME-SIZE)) _ (eq-eqb (getD f S₈ 0) 0 (rw same (run-zero f at NAME-SIZE q))))
-      (le-or-lt NAME-SIZE R₈))
+      (λ (q : S₈ f at < at + R₈ f at).
+      let d : at + (S₈ f at - at) ≡ S₈ f at = omega arith in
+      absurd (not-both (visible (getD f (S₈ f at) 0)) (rw d at (seen (S₈ f at - at) (omega arith))) (stop-end f at NAME-SIZE (omega arith))))
+      (⊎-elim (λ (q : S₈ f at ≡ at + R₈ f at). q)
+      (λ (q : at + R₈ f at < S₈ f at). absurd (seen-not-zero f at (at + R₈ f at) (stop-seen f at NAME-SIZE (at + R₈ f at) (omega arith) q) (run-zero f at NAME-SIZE (omega arith)))))
+      (three-ways (S₈ f at) (at + R₈ f at)) in
+      let far : (ltb at (S₈ f at) || empty) ≡ true =
+      ⊎-elim
+      (λ (k : R₈ f at ≤ 0).
+      or-right (ltb at (S₈ f at)) empty (may-be-empty empty (eqb (length (P₈ f at)) 0) some (eq-eqb (length (P₈ f at)) 0 (omega arith))))
+      (λ (k : 0 < R₈ f at). or-left (ltb at (S₈ f at)) empty (lt-ltb at (S₈ f at) (omega arith)))
+      (le-or-lt (R₈ f at) 0)
+      in
+      and-both (ltb at (S₈ f at) || empty) _ far
+      (⊎-elim (λ (q : NAME-SIZE ≤ R₈ f at). or-left (eqb (S₈ f at) (at + NAME-SIZE)) _ (eq-eqb (S₈ f at) (at + NAME-SIZE) (omega arith)))
+      (λ (q : R₈ f at < NAME-SIZE). or-right (eqb (S₈ f at) (at + NAME-SIZE)) _ (eq-eqb (getD f (S₈ f at) 0) 0 (rw same (run-zero f at NAME-SIZE q))))
+      (le-or-lt NAME-SIZE (R₈ f at)))
 
-  empty-run : eqb (getD f at 0) 0 ≡ true → R₈ ≡ 0
+  field-is : fieldBy f empty at ≡ pick (good (P₈ f at)) (Good at (R₈ f at)) Bad
+  field-is =
+      same-pick (fieldEnds f empty at (S₈ f at)) (good (P₈ f at)) at (S₈ f at - at) (R₈ f at) (both-ways (fieldEnds f empty at (S₈ f at)) (good (P₈ f at)) field-good good-field) field-run
+
+-- a section's is its run
+section-field : (f : List ℕ) (at : ℕ) → fieldBy f true at ≡ checked goodSectionName f (shortRun f at)
+unfolding checked
+section-field f at = field-is goodSectionName true section-rule f at
+
+-- a symbol's too, as an empty run is no good name
+module _ (f : List ℕ) (at : ℕ) where
+  empty-run : eqb (getD f at 0) 0 ≡ true → R₈ f at ≡ 0
   unfolding run pick
   empty-run z = rw z
 
-  empty-bad : eqb (getD f at 0) 0 ≡ true → goodSymbolName P₈ ≡ false
+  empty-bad : eqb (getD f at 0) 0 ≡ true → goodSymbolName (P₈ f at) ≡ false
   unfolding goodSymbolName
   empty-bad z =
       let e = empty-run z in
       let l = run-long f at NAME-SIZE in
-      let n : eqb (length P₈) 0 ≡ true = eq-eqb (length P₈) 0 (omega arith) in
+      let n : eqb (length (P₈ f at)) 0 ≡ true = eq-eqb (length (P₈ f at)) 0 (omega arith) in
       rw n
 
-  -- an empty run is no good name
-  run-checked : (b : Bool) → eqb (getD f at 0) 0 ≡ b → checked goodSymbolName f (pick b Bad (shortRun f at)) ≡ pick (goodSymbolName P₈) (Good at R₈) Bad
+  run-checked : (b : Bool) → eqb (getD f at 0) 0 ≡ b → checked goodSymbolName f (pick b Bad (shortRun f at)) ≡ pick (goodSymbolName (P₈ f at)) (Good at (R₈ f at)) Bad
   unfolding checked pick
   run-checked true e = rw (empty-bad e)
   run-checked false e = refl
 
-  field-is : fieldTo f at S₈ ≡ checked goodSymbolName f (pick (eqb (getD f at 0) 0) Bad (shortRun f at))
-  field-is =
-      same-pick (fieldEnds f at S₈) (goodSymbolName P₈) at (S₈ - at) R₈ (both-ways (fieldEnds f at S₈) (goodSymbolName P₈) field-good good-field) field-run
-      ∙ sym (run-checked (eqb (getD f at 0) 0) refl)
+  symbol-field : fieldBy f false at ≡ checked goodSymbolName f (pick (eqb (getD f at 0) 0) Bad (shortRun f at))
+  symbol-field = field-is goodSymbolName false symbol-rule f at ∙ sym (run-checked (eqb (getD f at 0) 0) refl)
 
 -- ---- with the words of the file's own string table, as the part of an array that was filled
 pub stops-kept : (f : List ℕ) (h : Header) (m w : List ℕ) (n : ℕ) → m ≡ splice (replicate BLOCKS 0) 0 (stopsOf f h) → n ≡ stopCount f h → w ≡ part m 0 n → w ≡ stopsOf f h
@@ -284,10 +305,10 @@ module _ (f : List ℕ) (h : Header) (stops : List ℕ) (words : stops ≡ stops
   pub symbol-name-is : (j : ℕ) → symbolNameBy f h stops j ≡ symbolName f h j
   unfolding symbolNameBy symbolRun pick
   symbol-name-is j =
-      ⊎-elim (λ e. rw e (long-by goodSymbolName false symbol-rule (get 4 f (symbolRecordAt h j + LONG-OFFSET-AT)))) (λ e. rw e (field-is f (symbolRecordAt h j))) (yes-no (eqb (get 4 f (symbolRecordAt h j)) 0))
+      ⊎-elim (λ e. rw e (long-by goodSymbolName false symbol-rule (get 4 f (symbolRecordAt h j + LONG-OFFSET-AT)))) (λ e. rw e (symbol-field f (symbolRecordAt h j))) (yes-no (eqb (get 4 f (symbolRecordAt h j)) 0))
 
   -- and that of section i
   pub section-name-is : (i : ℕ) → sectionNameBy f h stops i ≡ sectionName f h i
   unfolding sectionNameBy sectionRun pick
   section-name-is i =
-      ⊎-elim (λ (e : eqb (getD f (sectionHeaderAt h i) 0) SLASH ≡ true). rw (e, slash-is f h (sectionHeaderAt h i)) (slash-by (slashOffset f (sectionHeaderAt h i)))) (λ e. rw e) (yes-no (eqb (getD f (sectionHeaderAt h i) 0) SLASH))
+      ⊎-elim (λ (e : eqb (getD f (sectionHeaderAt h i) 0) SLASH ≡ true). rw (e, slash-is f h (sectionHeaderAt h i)) (slash-by (slashOffset f (sectionHeaderAt h i)))) (λ e. rw e (section-field f (sectionHeaderAt h i))) (yes-no (eqb (getD f (sectionHeaderAt h i) 0) SLASH))

@@ -12,7 +12,7 @@ use Rattle.names.specs.declared.Name.{Name}
 use Rattle.names.specs.declared.Name.the-variants.{Good, Bad}
 use Rattle.names.specs.declared.Digits.{Digits}
 use Rattle.names.specs.declared.Digits.the-variants as digits
-use Rattle.names.specs.Name.{SLASH, slashOffset, sectionName}
+use Rattle.names.specs.Name.{SLASH, slashOffset}
 use Rattle.stops.specs.Stops.{strings, stopIn, stopBy}
 
 -- in a table that says it has n bytes a name at offset o may end at s: there is a zero within them, behind o, or at o where a name may be empty
@@ -27,19 +27,23 @@ longTo f h empty o s = pick (mayEnd (strings f h) (stringLength f h) empty o s) 
 abbrev pub longBy : List ℕ → Header → List ℕ → Bool → ℕ → Name
 longBy f h stops empty o = longTo f h empty o (stopBy (strings f h) stops o)
 
--- a symbol's name in its field at `at` may end at s: behind `at`, at the field's end or at a zero
-unfoldable pub fieldEnds : List ℕ → ℕ → ℕ → Bool
-fieldEnds f at s = ltb at s && (eqb s (at + NAME-SIZE) || eqb (getD f s 0) 0)
+-- a name in its field at `at` may end at s: behind `at` unless it may be empty, at the field's end or at a zero
+unfoldable pub fieldEnds : List ℕ → Bool → ℕ → ℕ → Bool
+fieldEnds f empty at s = (ltb at s || empty) && (eqb s (at + NAME-SIZE) || eqb (getD f s 0) 0)
 
 -- that name, if its visible bytes end at s
-abbrev pub fieldTo : List ℕ → ℕ → ℕ → Name
-fieldTo f at s = pick (fieldEnds f at s) (Good at (s - at)) Bad
+abbrev pub fieldTo : List ℕ → Bool → ℕ → ℕ → Name
+fieldTo f empty at s = pick (fieldEnds f empty at s) (Good at (s - at)) Bad
+
+-- the same, with s where they do end
+abbrev pub fieldBy : List ℕ → Bool → ℕ → Name
+fieldBy f empty at = fieldTo f empty at (stopIn f at NAME-SIZE)
 
 -- the name of symbol j
 unfoldable pub symbolNameBy : List ℕ → Header → List ℕ → ℕ → Name
 symbolNameBy f h stops j =
     pick (eqb (get 4 f (symbolRecordAt h j)) 0) (longBy f h stops false (get 4 f (symbolRecordAt h j + LONG-OFFSET-AT)))
-    (fieldTo f (symbolRecordAt h j) (stopIn f (symbolRecordAt h j) NAME-SIZE))
+    (fieldBy f false (symbolRecordAt h j))
 
 -- a section's that begins with a slash, by its digits
 unfoldable pub slashNameBy : List ℕ → Header → List ℕ → Digits → Name
@@ -49,4 +53,4 @@ slashNameBy f h stops digits.Bad = Bad
 -- the name of section i
 unfoldable pub sectionNameBy : List ℕ → Header → List ℕ → ℕ → Name
 sectionNameBy f h stops i =
-    pick (eqb (getD f (sectionHeaderAt h i) 0) SLASH) (slashNameBy f h stops (slashOffset f (sectionHeaderAt h i))) (sectionName f h i)
+    pick (eqb (getD f (sectionHeaderAt h i) 0) SLASH) (slashNameBy f h stops (slashOffset f (sectionHeaderAt h i))) (fieldBy f true (sectionHeaderAt h i))

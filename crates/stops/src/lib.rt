@@ -7,11 +7,11 @@ ghost use mathlib.Core.Path.{_≡_};
 ghost use Prim.Native.Nat.{_-_, _*_, _/_, _+_, _<_, _≤_, _^_};
 ghost use lib.ListN.{length};
 ghost use Rattle.le.specs.Le.{splice};
-ghost use Rattle.object.specs.Format.{NAME-SIZE};
 ghost use Rattle.names.specs.Bytes.{allVisible};
+ghost use Rattle.names.specs.Name.{isGood};
 ghost use Rattle.stops.specs.Stops.{EIGHT, BLOCK, strings, stopIn, stop, blocksOf, stopWords, stopCount, stopsOf, stopBy};
 ghost use Rattle.stops.specs.StopLaws.{VisibleTo};
-ghost use Rattle.stops.specs.Names.{mayEnd, fieldEnds, fieldTo, longBy, slashNameBy, symbolNameBy, sectionNameBy};
+ghost use Rattle.stops.specs.Names.{mayEnd, fieldEnds, fieldBy, longBy, slashNameBy, symbolNameBy, sectionNameBy};
 
 // How many bytes one look takes, and how many must be left for it: a name in its field is too short to gain by it.
 const EIGHT: usize = 8;
@@ -168,6 +168,15 @@ fn may_end(t: &[u8], length: usize, empty: bool, o: usize, s: usize) -> bool
     )
 }
 
+// There is a good long name at o.
+fn long_ok(f: &[u8], h: Header, stops: &[u32], empty: bool, o: usize) -> bool
+    ensures { λ r. ⌜ r ≡ isGood (longBy (now (f .entry)) h (now (stops .entry)) empty o) ⌝ }
+{
+    let length = object::string_length(f, h);
+    let t = le::part(f, object::string_table(h), length as usize);
+    may_end(t, length as usize, empty, o, stop_by(t, stops, o))
+}
+
 // The long name at o.
 fn long_name(f: &[u8], h: Header, stops: &[u32], empty: bool, o: usize) -> Name
     ensures { λ r. ⌜ r ≡ longBy (now (f .entry)) h (now (stops .entry)) empty o ⌝ }
@@ -182,27 +191,49 @@ fn long_name(f: &[u8], h: Header, stops: &[u32], empty: bool, o: usize) -> Name
     }
 }
 
-// A name in the field at `at` may end at s.
-fn field_ends(f: &[u8], at: usize, s: usize) -> bool
+// A name in the field at `at` may end at s; `empty` says whether it may be empty.
+fn field_ends(f: &[u8], empty: bool, at: usize, s: usize) -> bool
     requires { ⌜ at < 2 ^ 38 ⌝ }
-    ensures { λ r. ⌜ r ≡ fieldEnds (now (f .entry)) at s ⌝ }
+    ensures { λ r. ⌜ r ≡ fieldEnds (now (f .entry)) empty at s ⌝ }
 {
     util::both(
-        at < s,
+        util::either(at < s, empty),
         util::either(s == at + object::NAME_SIZE, le::byte_at(f, s) == 0),
     )
 }
 
-// The name in the field at `at`.
-fn field_name(f: &[u8], at: usize) -> Name
+// There is a good name in the field at `at`.
+fn field_ok(f: &[u8], empty: bool, at: usize) -> bool
     requires { ⌜ at < 2 ^ 38 ⌝ }
-    ensures { λ r. ⌜ r ≡ fieldTo (now (f .entry)) at (stopIn (now (f .entry)) at NAME-SIZE) ⌝ }
+    ensures { λ r. ⌜ r ≡ isGood (fieldBy (now (f .entry)) empty at) ⌝ }
+{
+    field_ends(f, empty, at, scan(f, at, object::NAME_SIZE))
+}
+
+// The name in the field at `at`.
+fn field_name(f: &[u8], empty: bool, at: usize) -> Name
+    requires { ⌜ at < 2 ^ 38 ⌝ }
+    ensures { λ r. ⌜ r ≡ fieldBy (now (f .entry)) empty at ⌝ }
 {
     let s = scan(f, at, object::NAME_SIZE);
-    if field_ends(f, at, s) {
+    if field_ends(f, empty, at, s) {
         Name::Good(at, s - at)
     } else {
         Name::Bad
+    }
+}
+
+// Symbol j has a good name: its check alone, which a loop over all symbols has compiled into it.
+pub fn symbol_ok(f: &[u8], h: Header, stops: &[u32], j: u32) -> bool
+    ensures { λ r. ⌜ r ≡ isGood (symbolNameBy (now (f .entry)) h (now (stops .entry)) j) ⌝ }
+{
+    let at = object::symbol_record_at(h, j);
+    let long = le::u32_at(f, at) == 0;
+    if long {
+        let o = le::u32_at(f, at + object::LONG_OFFSET_AT);
+        long_ok(f, h, stops, false, o as usize)
+    } else {
+        field_ok(f, false, at)
     }
 }
 
@@ -216,7 +247,29 @@ pub fn symbol_name(f: &[u8], h: Header, stops: &[u32], j: u32) -> Name
         let o = le::u32_at(f, at + object::LONG_OFFSET_AT);
         long_name(f, h, stops, false, o as usize)
     } else {
-        field_name(f, at)
+        field_name(f, false, at)
+    }
+}
+
+fn slash_ok(f: &[u8], h: Header, stops: &[u32], d: Digits) -> bool
+    ensures { λ r. ⌜ r ≡ isGood (slashNameBy (now (f .entry)) h (now (stops .entry)) d) ⌝ }
+{
+    match d {
+        Digits::Offset(o) => long_ok(f, h, stops, true, o as usize),
+        Digits::Bad => false,
+    }
+}
+
+// Section i has a good name.
+pub fn section_ok(f: &[u8], h: Header, stops: &[u32], i: u32) -> bool
+    ensures { λ r. ⌜ r ≡ isGood (sectionNameBy (now (f .entry)) h (now (stops .entry)) i) ⌝ }
+{
+    let at = object::section_header_at(h, i);
+    let slash = le::byte_at(f, at) == names::SLASH;
+    if slash {
+        slash_ok(f, h, stops, names::slash_offset(f, h, i))
+    } else {
+        field_ok(f, true, at)
     }
 }
 
@@ -233,10 +286,11 @@ fn slash_name(f: &[u8], h: Header, stops: &[u32], d: Digits) -> Name
 pub fn section_name(f: &[u8], h: Header, stops: &[u32], i: u32) -> Name
     ensures { λ r. ⌜ r ≡ sectionNameBy (now (f .entry)) h (now (stops .entry)) i ⌝ }
 {
-    let slash = le::byte_at(f, object::section_header_at(h, i)) == names::SLASH;
+    let at = object::section_header_at(h, i);
+    let slash = le::byte_at(f, at) == names::SLASH;
     if slash {
         slash_name(f, h, stops, names::slash_offset(f, h, i))
     } else {
-        names::section_name(f, h, i)
+        field_name(f, true, at)
     }
 }

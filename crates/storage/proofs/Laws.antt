@@ -14,7 +14,7 @@ use Rattle.arch.specs.declared.Offset.{Offset}
 use Rattle.object.specs.declared.Header.{Header}
 use Rattle.object.specs.Format.{headerOf}
 use Rattle.object.specs.Section.{relocationCount}
-use Rattle.layout.specs.Layout.{startsTo, mappedPages, undefStart}
+use Rattle.layout.specs.Layout.{startsTo, pagesTo, mappedPages, undefStart}
 use Rattle.layout.specs.LayoutLaws.{undef-fits}
 use Rattle.homes.specs.Home.{homeRecords, homeIn}
 use Rattle.targets.specs.Table.{targetIn}
@@ -48,7 +48,7 @@ module _ (f : List ℕ) (h : Header) (base : ℕ) (home : ℕ → Offset) (undef
 pub ruleset parts = (laid-is, listed-is, names-are)
 
 pub stored-is : (a : Arch) (f : List ℕ) (h : Header) (base : ℕ) (homes starts codes slots first names : List ℕ) (start : RVA) (undef pages m n : ℕ) (i i′ k k′ s s′ y y′ e e′ x x′ z z′ : List ℕ) → h ≡ headerOf f
-    → start ≡ rva (undefStart f h) → undef ≡ undefStart f h % 2 ^ 32 → pages ≡ mappedPages f h % 2 ^ 32 → a ≡ archBy (archOf (h .machine)) → first ≡ part starts 0 (h .sections) → names ≡ part slots 0 m
+    → start ≡ rva (undefStart f h) → undef ≡ start .0 % 2 ^ 32 → pages ≡ pagesTo (start .0) % 2 ^ 32 → a ≡ archBy (archOf (h .machine)) → first ≡ part starts 0 (h .sections) → names ≡ part slots 0 m
     → n ≡ length names % 2 ^ 32
     → LayoutIs f h base first (start .0) pages n s s′ i i′ k k′ → NamesAre f h base (homeIn homes) (heldRecords f h) (start .0) n names y y′ e e′
     → BothWritten (fixTable base (outcome a f h (homeIn homes) (targetIn homes starts undef codes)) (relocationCount f h) (h .sections))
@@ -60,6 +60,7 @@ stored-is a f h base homes starts codes slots first names start undef pages m n 
     let fits = undef-fits f h (lim .pages) in
     let room = lim .pages in
     let few = lim .few in
+    let at : start .0 ≡ undefStart f h = rw begins in
     let u : undef ≡ undefStart f h = omega arith in
     let p : pages ≡ mappedPages f h = omega arith in
     let c : n ≡ length names = omega arith in

@@ -109,8 +109,8 @@ pub fn write_all(
 {
     let h = object::read_header(f);
     let start = layout::undef_start(f, h);
-    let undef = layout::undef_offset(f, h);
-    let pages = layout::page_total(f, h);
+    let undef = layout::offset_word(start);
+    let pages = layout::page_word(start);
     let arch = Arch::by_machine(h.machine);
     let first = le::words(starts, h.sections as usize);
     let names = le::words(slots, n);

@@ -3,11 +3,11 @@ use mathlib.Core.Path.{_≡_, refl, sym, ap, _∙_}
 use mathlib.Core.Bool.{Bool, true, false, not}
 use mathlib.Core.List.{List, [], _∷_, _++_}
 use mathlib.Core.Logic.{⊎-elim}
-use Prim.Native.Nat.{ℕ, zero, suc, _≤_, _%_, _^_}
+use Prim.Native.Nat.{ℕ, zero, suc, _+_, _-_, _≤_, _%_, _^_}
 use native.Mathlib.Omega.{arith}
 use lib.Dec.{eqb, leb}
 use lib.ListN.{length, replicate}
-use borrow.Author.Tests.{not-true, not-false, leb-true}
+use borrow.Author.Tests.{not-true, not-false}
 use Rattle.limits.specs.Limits.{MAX-PAGES, MAX-EXTERNS}
 use Rattle.refusal.specs.Refusal.{PAGES, EXTERNS, TARGET, PLACE}
 use Rattle.util.specs.Pick.{pick, yes-no}
@@ -15,30 +15,35 @@ use Rattle.le.specs.Le.{splice}
 use Rattle.codes.specs.Code.{codesTo}
 use Rattle.arch.specs.declared.Arch.{Arch}
 use Rattle.arch.specs.declared.Offset.{Offset}
+use Rattle.arch.specs.declared.RVA.{RVA}
+use Rattle.arch.specs.Address.{rva}
 use Rattle.arch.specs.Machine.{archOf, archBy}
 use Rattle.bounds.specs.Bounds.{relocationTotal}
 use Rattle.checks.specs.Checks.{pagesOk}
+use Rattle.checks.specs.CheckLaws.{pages-are, pages-few}
 use Rattle.object.specs.declared.Header.{Header}
 use Rattle.object.specs.Format.{headerOf}
 use Rattle.object.specs.Section.{relocationCount}
-use Rattle.layout.specs.Layout.{undefStart, mappedPages, tableRecords}
+use Rattle.layout.specs.Layout.{undefStart, pagesTo, mappedPages, tableRecords}
 use Rattle.homes.specs.Home.{homeIn}
 use Rattle.homes.specs.Listed.{listedTotal}
 use Rattle.externs.specs.declared.Names.{Names}
 use Rattle.externs.specs.declared.Names.the-variants.{TooMany, Count}
 use Rattle.externs.specs.Externs.{externs, namesOf}
-use Rattle.externs.specs.Slotted.{slotted, codesAfter}
+use Rattle.externs.specs.Slotted.{slotted, CodesAfter}
 use Rattle.targets.specs.declared.Target.{Target}
 use Rattle.targets.specs.Table.{targetIn}
+use Rattle.fixups.specs.declared.Outcome.{Outcome}
 use Rattle.fixups.specs.Outcome.{outcome}
 use Rattle.fixups.specs.Tally.{tallyOf}
+use Rattle.fixups.specs.TallyLaws.{all-counted}
 use Rattle.fixups.specs.declared.Tally.{Tally}
 use Rattle.survey.specs.declared.answer.Counts.{Counts}
 use Rattle.survey.specs.declared.answer.Survey.{Survey}
 use Rattle.survey.specs.declared.answer.Survey.the-variants.{Accepted, Refused}
-use Rattle.survey.specs.Survey.{Check, check, firstFailed, recordChecks, targetChecks, externChecks, tallyBy, countsBy, tally, checks, counts, answerBy, surveyOf}
-use Rattle.survey.specs.SurveyLaws.{Ordered, ordered, failed-first, records-rest, says-refused, fits-is}
-use Rattle.survey.specs.Surveying.{targetsAnswer, plannedBy, namesIn, answerIn, codeRoom, homeWords, startWords, codeWords}
+use Rattle.survey.specs.Survey.{Check, check, firstFailed, earlyChecks, pageChecks, targetChecks, externChecks, tallyBy, countsBy, tally, checks, counts, answerBy, surveyOf}
+use Rattle.survey.specs.SurveyLaws.{Early, Ordered, failed-first, early, early-rest, with-pages, records-rest, says-refused, fits-is}
+use Rattle.survey.specs.Surveying.{behindPages, targetsAnswer, plannedBy, namesIn, answerIn, codeRoom, homeWords, startWords, codeWords}
 use Rattle.survey.specs.TableLaws.{few-room, many-room, answer-whole}
 
 -- ---- the counts
@@ -57,9 +62,9 @@ countsOf h t pages sections symbols n relocations =
       relocations = relocations;
     }
 
-pub counts-are : (f : List ℕ) (h : Header) (home : ℕ → Offset) (n p s y r : ℕ) (t : Tally) → p ≡ mappedPages f h → s ≡ tableRecords f h → y ≡ listedTotal f h home → r ≡ relocationTotal f h → countsOf h t p s y n r ≡ countsBy f h home n t
+pub counts-are : (f : List ℕ) (h : Header) (home : ℕ → Offset) (n p s y r : ℕ) (u : RVA) (t : Tally) → p ≡ pagesTo (u .0) → s ≡ tableRecords f h → y ≡ listedTotal f h home → r ≡ relocationTotal f h → u ≡ rva (undefStart f h) → countsOf h t p s y n r ≡ countsBy f h home n t
 unfolding countsBy
-counts-are f h home n p s y r t a b c d = rw (a, b, c, d)
+counts-are f h home n p s y r u t a b c d e = rw (a, e, b, c, d)
 
 -- ---- the chain of checks
 module _ (ok r : Bool) (n : ℕ) (cs : List Check) where
@@ -79,28 +84,38 @@ pub ruleset chain = (check-pass, check-fail, checks-end)
 
 -- ---- UNDEF and the pages in 32 bits
 -- of an image that is not too large both fit
-pub tally-fits : (f : List ℕ) (h : Header) (homes starts codes : List ℕ) (a : Arch) (undef pages : ℕ) (r : Tally) → a ≡ archBy (archOf (h .machine)) → undef ≡ undefStart f h % 2 ^ 32
-    → pages ≡ mappedPages f h % 2 ^ 32 → mappedPages f h ≤ MAX-PAGES
-    → r ≡ tallyOf pages (outcome a f h (homeIn homes) (targetIn homes starts undef codes)) (relocationCount f h) (h .sections)
+pub tally-fits : (f : List ℕ) (h : Header) (homes starts codes : List ℕ) (a : Arch) (offset pages : ℕ) (u : RVA) (r : Tally) → a ≡ archBy (archOf (h .machine))
+    → offset ≡ u .0 % 2 ^ 32 → pages ≡ pagesTo (u .0) % 2 ^ 32
+    → r ≡ tallyOf pages (outcome a f h (homeIn homes) (targetIn homes starts offset codes)) (relocationCount f h) (h .sections)
+    → mappedPages f h ≤ MAX-PAGES → u ≡ rva (undefStart f h)
     → r ≡ tallyBy f h (homeIn homes) (targetIn homes starts (undefStart f h) codes)
-tally-fits f h homes starts codes a undef pages r e q p k d =
-    let x : undef ≡ undefStart f h = omega arith in
+tally-fits f h homes starts codes a offset pages u r e q p d k g =
+    let z : u .0 ≡ undefStart f h = rw g in
+    let x : offset ≡ undefStart f h = omega arith in
     let y : pages ≡ mappedPages f h = omega arith in
     rw (y, x, e) at d
 
-module _ (f : List ℕ) (h : Header) (home : ℕ → Offset) (target : ℕ → Target) (n : ℕ) where
-  pub planned-yes : (b : Bool) (x : Survey) → b ≡ pagesOk f h → b ≡ true → x ≡ targetsAnswer f h home target n → x ≡ plannedBy f h home target n
-  unfolding firstFailed pick
-  planned-yes b x q e d = rw (← q, e) d
+-- and its numbers add up to the relocations
+pub tally-adds : (f : List ℕ) (h : Header) (pages : ℕ) (o : ℕ → ℕ → Outcome) (r : Tally) → r ≡ tallyOf pages o (relocationCount f h) (h .sections)
+    → r .passed + r .skips + r .refused + r .fixups ≡ relocationTotal f h
+unfolding tallyOf
+tally-adds f h pages o r e = rw e (all-counted o (relocationCount f h) (h .sections))
 
-  pub planned-no : (b : Bool) → b ≡ pagesOk f h → b ≡ false → Refused PAGES ≡ plannedBy f h home target n
-  unfolding firstFailed answerBy pick
-  planned-no b q e = rw (← q, e)
+-- ---- behind refusal 8, by UNDEF's start
+module _ (f : List ℕ) (h : Header) (b : Bool) (u : RVA) (q : b ≡ leb (pagesTo (u .0)) MAX-PAGES) where
+  behind-yes : (x s : Survey) → b ≡ true → u ≡ rva (undefStart f h) → x ≡ s → x ≡ behindPages f h s
+  unfolding pick
+  behind-yes x s e start d = rw (← pages-are f h b u q start, e) d
 
-pub pages-few : (f : List ℕ) (h : Header) (b : Bool) → b ≡ pagesOk f h → b ≡ true → mappedPages f h ≤ MAX-PAGES
-pages-few f h b q e = leb-true (mappedPages f h) MAX-PAGES (sym q ∙ e)
+  pub behind-no : (s : Survey) → b ≡ false → u ≡ rva (undefStart f h) → Refused PAGES ≡ behindPages f h s
+  unfolding pick
+  behind-no s e start = rw (← pages-are f h b u q start, e)
 
-pub ruleset planned = (planned-yes, planned-no, pages-few)
+  pub planned-yes : (home : ℕ → Offset) (target : ℕ → Target) (n : ℕ) (x : Survey) → b ≡ true
+      → (mappedPages f h ≤ MAX-PAGES → u ≡ rva (undefStart f h) → x ≡ targetsAnswer f h home target n) → u ≡ rva (undefStart f h) → x ≡ plannedBy f h home target n
+  planned-yes home target n x e d start = behind-yes x (targetsAnswer f h home target n) e start (d (pages-few f h b u q start e) start)
+
+pub ruleset planned = (planned-yes, behind-no)
 
 -- ---- the answer
 module _ (t : Tally) (c : Counts) where
@@ -138,13 +153,15 @@ module _ (f : List ℕ) (h : Header) (homes starts codes : List ℕ) (r : Names)
   unfolding answerBy firstFailed pick
   externs-over e = rw (names-over (namesIn f h homes starts codes) (sym e ∙ is))
 
-  pub externs-fit : (n : ℕ) (codes′ : List ℕ) (x : Survey) → r ≡ Count n → codes′ ≡ codesAfter f h codes (namesIn f h homes starts codes)
-      → x ≡ targetsAnswer f h (homeIn homes) (targetIn homes starts (undefStart f h) codes′) n → x ≡ answerIn f h homes starts codes
-  unfolding firstFailed codesAfter pick
-  externs-fit n codes′ x e q d =
+  pub externs-fit : (n : ℕ) (codes′ : List ℕ) (u : RVA) (x : Survey) → r ≡ Count n → CodesAfter f h codes (namesIn f h homes starts codes) codes′
+      → mappedPages f h ≤ MAX-PAGES → u ≡ rva (undefStart f h)
+      → (mappedPages f h ≤ MAX-PAGES → u ≡ rva (undefStart f h) → x ≡ targetsAnswer f h (homeIn homes) (targetIn homes starts (undefStart f h) codes′) n)
+      → x ≡ answerIn f h homes starts codes
+  unfolding firstFailed pick
+  externs-fit n codes′ u x e q room start d =
       let c = names-fit (namesIn f h homes starts codes) n (sym e ∙ is) in
-      let g : codes′ ≡ slotted f h (namesIn f h homes starts codes) codes = rw (c .few) at q in
-      rw (c .few) (rw (g, c .all) at d)
+      let g : codes′ ≡ slotted f h (namesIn f h homes starts codes) codes = q .few (c .few) in
+      rw (c .few) (rw (g, c .all) at (d room start))
 
 pub ruleset extern-ways = (externs-over, externs-fit)
 
@@ -155,33 +172,53 @@ symbols-by n f h homes starts codes x e q d = let c : codes ≡ codeWords f h = 
 
 pub ruleset arrays = (symbols-by, few-room, many-room)
 
-pub sections-by : (f : List ℕ) (h : Header) (homes starts : List ℕ) (x : Survey) → homes ≡ homeWords f h → starts ≡ startWords f h → x ≡ answerIn f h homes starts (codeWords f h)
-    → x ≡ answerIn f h (homeWords f h) (startWords f h) (codeWords f h)
-sections-by f h homes starts x e q d = rw (e, q) at d
+pub sections-by : (f : List ℕ) (h : Header) (homes starts : List ℕ) (b : Bool) (u : RVA) (x : Survey) → homes ≡ homeWords f h → starts ≡ startWords f h
+    → b ≡ leb (pagesTo (u .0)) MAX-PAGES → b ≡ true → u ≡ rva (undefStart f h) → x ≡ answerIn f h homes starts (codeWords f h)
+    → x ≡ behindPages f h (answerIn f h (homeWords f h) (startWords f h) (codeWords f h))
+sections-by f h homes starts b u x e q p t start d =
+    behind-yes f h b u p x (answerIn f h (homeWords f h) (startWords f h) (codeWords f h)) t start (rw (e, q) at d)
+
+pub ruleset section-ways = (sections-by, behind-no, pages-few)
 
 -- ---- the whole
-refused-by : (f : List ℕ) (h : Header) (code : ℕ) → code ≡ firstFailed (recordChecks f h) → (code ≡ 0 → ⊥) → Refused code ≡ answerBy (firstFailed (checks f h)) (counts f h)
-refused-by f h zero e z = absurd (z refl)
-refused-by f h (suc n) e z =
-    let g : firstFailed (checks f h) ≡ suc n = failed-first (recordChecks f h) (externChecks (length (externs f h)) ++ targetChecks (tally f h)) n (sym e) in
-    says-refused (suc n) (counts f h) z ∙ ap (λ (k : ℕ). answerBy k (counts f h)) (sym g)
+behind-is : (f : List ℕ) (h : Header) (s y : Survey) → (pagesOk f h ≡ true → s ≡ y) → (pagesOk f h ≡ false → Refused PAGES ≡ y) → behindPages f h s ≡ y
+unfolding pick
+behind-is f h s y a b = ⊎-elim (λ t. rw t (a t)) (λ t. rw t (b t)) (yes-no (pagesOk f h))
 
-module _ (f : List ℕ) (h : Header) (code : ℕ) where
-  pub survey-yes : (x : Survey) → h ≡ headerOf f → code ≡ firstFailed (recordChecks f h) → code ≡ 0 → x ≡ answerIn f h (homeWords f h) (startWords f h) (codeWords f h) → x ≡ surveyOf f
-  survey-yes x q e z d =
-      let o : Ordered f h = ordered f h [] (sym e ∙ z) in
-      rw (← q, records-rest f h (externChecks (length (externs f h)) ++ targetChecks (tally f h)) o) (d ∙ answer-whole f h (fits-is f h code q e z) (o .numbers))
+module _ (f : List ℕ) (h : Header) (code : ℕ) (is : code ≡ firstFailed (earlyChecks f h)) where
+  abbrev late : List Check
+  late = externChecks (length (externs f h)) ++ targetChecks (tally f h)
 
-  pub survey-no : h ≡ headerOf f → code ≡ firstFailed (recordChecks f h) → (code ≡ 0 → ⊥) → Refused code ≡ surveyOf f
-  survey-no q e z = rw (← q) (refused-by f h code e z)
+  refused-by : (k : ℕ) → firstFailed (checks f h) ≡ suc k → Refused (suc k) ≡ answerBy (firstFailed (checks f h)) (counts f h)
+  refused-by k e = rw e (says-refused (suc k) (counts f h) (λ z. absurd (omega arith)))
 
-pub pages-fit : (f : List ℕ) (h : Header) (code : ℕ) → h ≡ headerOf f → code ≡ firstFailed (recordChecks f h) → code ≡ 0 → mappedPages f h ≤ MAX-PAGES
-pages-fit f h code q e z = fits-is f h code q e z .pages
+  pages-apply : Early f h → pagesOk f h ≡ false → firstFailed (checks f h) ≡ PAGES
+  unfolding firstFailed pick
+  pages-apply o t = early-rest f h (pageChecks f h ++ late) o ∙ rw t
 
-pub ruleset whole = (pages-fit, survey-yes, survey-no)
+  ordered-answer : Ordered f h → h ≡ headerOf f → answerIn f h (homeWords f h) (startWords f h) (codeWords f h) ≡ answerBy (firstFailed (checks f h)) (counts f h)
+  ordered-answer o q = answer-whole f h (fits-is f h q o) (o .numbers) ∙ ap (λ (k : ℕ). answerBy k (counts f h)) (sym (records-rest f h late o))
 
--- ---- the answer by a tally and counts that are known by equations
-pub targets-by : (f : List ℕ) (h : Header) (home : ℕ → Offset) (n : ℕ) (t u : Tally) (c : Counts) {r : Survey}
-    → r ≡ answerBy (firstFailed (targetChecks t)) c → c ≡ countsBy f h home n t → t ≡ u
-    → r ≡ answerBy (firstFailed (targetChecks u)) (countsBy f h home n u)
-targets-by f h home n t u c p q e = rw (← e, ← q) p
+  pages-answer : code ≡ 0 → h ≡ headerOf f → behindPages f h (answerIn f h (homeWords f h) (startWords f h) (codeWords f h)) ≡ answerBy (firstFailed (checks f h)) (counts f h)
+  pages-answer z q =
+      let o = early f h [] (sym is ∙ z) in
+      behind-is f h _ _ (λ t. ordered-answer (with-pages f h o t) q) (λ t. refused-by (PAGES - 1) (pages-apply o t))
+
+  pub survey-yes : (x : Survey) → h ≡ headerOf f → code ≡ 0 → x ≡ behindPages f h (answerIn f h (homeWords f h) (startWords f h) (codeWords f h)) → x ≡ surveyOf f
+  survey-yes x q z d = rw (← q) (d ∙ pages-answer z q)
+
+  early-refused : (k : ℕ) → k ≡ firstFailed (earlyChecks f h) → (k ≡ 0 → ⊥) → Refused k ≡ answerBy (firstFailed (checks f h)) (counts f h)
+  early-refused zero e z = absurd (z refl)
+  early-refused (suc k) e z = refused-by k (failed-first (earlyChecks f h) (pageChecks f h ++ late) k (sym e))
+
+  pub survey-no : h ≡ headerOf f → (code ≡ 0 → ⊥) → Refused code ≡ surveyOf f
+  survey-no q z = rw (← q) (early-refused code is z)
+
+pub ruleset whole = (survey-yes, survey-no)
+
+-- ---- the answer by a tally and counts, which are known where UNDEF starts there
+pub targets-by : (f : List ℕ) (h : Header) (home : ℕ → Offset) (target : ℕ → Target) (n : ℕ) (u : RVA) (t : Tally) (c : Counts) {r : Survey}
+    → r ≡ answerBy (firstFailed (targetChecks t)) c → (u ≡ rva (undefStart f h) → c ≡ countsBy f h home n t)
+    → (mappedPages f h ≤ MAX-PAGES → u ≡ rva (undefStart f h) → t ≡ tallyBy f h home target)
+    → mappedPages f h ≤ MAX-PAGES → u ≡ rva (undefStart f h) → r ≡ targetsAnswer f h home target n
+targets-by f h home target n u t c p q e room start = rw (← e room start, ← q start) p

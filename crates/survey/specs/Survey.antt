@@ -49,9 +49,9 @@ unfoldable pub firstFailed : List Check → ℕ
 firstFailed [] = 0
 firstFailed (c ∷ cs) = pick (c .passes) (firstFailed cs) (c .number)
 
--- of the file's records
-abbrev pub recordChecks : List ℕ → Header → List Check
-recordChecks f h =
+-- 1 to 7, of the file's records
+abbrev pub earlyChecks : List ℕ → Header → List Check
+earlyChecks f h =
     check (sizeOk f) FILE-SIZE
     ∷ check (machineOk h) (machineRefusal Unknown)
     ∷ check (sectionTableOk f h) SECTION-TABLE
@@ -59,8 +59,15 @@ recordChecks f h =
     ∷ check (sectionsOk f h) SECTION-DATA
     ∷ check (namesOk f h) (nameRefusal Bad)
     ∷ check (numbersOk f h) SECTION-NUMBER
-    ∷ check (pagesOk f h) PAGES
     ∷ []
+
+-- 8, of the layout
+abbrev pub pageChecks : List ℕ → Header → List Check
+pageChecks f h = check (pagesOk f h) PAGES ∷ []
+
+-- 1 to 8
+abbrev pub recordChecks : List ℕ → Header → List Check
+recordChecks f h = earlyChecks f h ++ pageChecks f h
 
 -- 9, by the number of extern names
 abbrev pub externChecks : ℕ → List Check

@@ -17,7 +17,7 @@ use Rattle.good_names.specs.GoodNames.{namesOk}
 use Rattle.checks.specs.Checks.{numbersOk, pagesOk}
 use Rattle.survey.specs.declared.answer.Counts.{Counts}
 use Rattle.survey.specs.declared.answer.Survey.the-variants.{Accepted, Refused}
-use Rattle.survey.specs.Survey.{Check, check, firstFailed, recordChecks, answerBy}
+use Rattle.survey.specs.Survey.{Check, check, firstFailed, earlyChecks, pageChecks, recordChecks, answerBy}
 use Rattle.survey.specs.Surveying.{Fits}
 
 -- ---- a list of checks without a failure
@@ -37,7 +37,17 @@ failed-first [] ys n e = absurd (omega arith)
 failed-first (c ∷ xs) ys n e =
     ⊎-elim (λ t. rw t (failed-first xs ys n (rw t at e))) (λ t. rw t (rw t at e)) (yes-no (c .passes))
 
--- ---- the file's records are in order
+-- ---- the file's records are in order: 1 to 7 do not apply
+pub record Early (f : List ℕ) (h : Header) : Type 0 where
+  pub size : sizeOk f ≡ true
+  pub machine : machineOk h ≡ true
+  pub sectionTable : sectionTableOk f h ≡ true
+  pub symbolTable : symbolTableOk f h ≡ true
+  pub sections : sectionsOk f h ≡ true
+  pub names : namesOk f h ≡ true
+  pub numbers : numbersOk f h ≡ true
+
+-- and 8 does not either
 pub record Ordered (f : List ℕ) (h : Header) : Type 0 where
   pub size : sizeOk f ≡ true
   pub machine : machineOk h ≡ true
@@ -48,17 +58,16 @@ pub record Ordered (f : List ℕ) (h : Header) : Type 0 where
   pub numbers : numbersOk f h ≡ true
   pub pages : pagesOk f h ≡ true
 
-module _ (f : List ℕ) (h : Header) (cs : List Check) where
-  -- the eight checks of the records, with others behind them
-  pub ordered : firstFailed (recordChecks f h ++ cs) ≡ 0 → Ordered f h
-  ordered e0 =
+module _ (f : List ℕ) (h : Header) where
+  -- the seven checks of the records, with others behind them
+  pub early : (cs : List Check) → firstFailed (earlyChecks f h ++ cs) ≡ 0 → Early f h
+  early cs e0 =
       let e1 = checks-hold _ _ _ e0 in
       let e2 = checks-hold _ _ _ e1 in
       let e3 = checks-hold _ _ _ e2 in
       let e4 = checks-hold _ _ _ e3 in
       let e5 = checks-hold _ _ _ e4 in
       let e6 = checks-hold _ _ _ e5 in
-      let e7 = checks-hold _ _ _ e6 in
       record {
         size = check-holds _ _ _ e0;
         machine = check-holds _ _ _ e1;
@@ -67,24 +76,42 @@ module _ (f : List ℕ) (h : Header) (cs : List Check) where
         sections = check-holds _ _ _ e4;
         names = check-holds _ _ _ e5;
         numbers = check-holds _ _ _ e6;
-        pages = check-holds _ _ _ e7;
       }
 
-  pub ordered-rest : firstFailed (recordChecks f h ++ cs) ≡ 0 → firstFailed cs ≡ 0
-  ordered-rest e0 =
-      let e1 = checks-hold _ _ _ e0 in
-      let e2 = checks-hold _ _ _ e1 in
-      let e3 = checks-hold _ _ _ e2 in
-      let e4 = checks-hold _ _ _ e3 in
-      let e5 = checks-hold _ _ _ e4 in
-      let e6 = checks-hold _ _ _ e5 in
-      let e7 = checks-hold _ _ _ e6 in
-      checks-hold _ _ _ e7
+  -- where they pass, the checks behind them decide
+  pub early-rest : (cs : List Check) → Early f h → firstFailed (earlyChecks f h ++ cs) ≡ firstFailed cs
+  unfolding firstFailed pick
+  early-rest cs o = rw (o .size, o .machine, o .sectionTable, o .symbolTable, o .sections, o .names, o .numbers)
 
--- where they are in order, the checks behind them decide
-pub records-rest : (f : List ℕ) (h : Header) (cs : List Check) → Ordered f h → firstFailed (recordChecks f h ++ cs) ≡ firstFailed cs
-unfolding firstFailed pick
-records-rest f h cs o = rw (o .size, o .machine, o .sectionTable, o .symbolTable, o .sections, o .names, o .numbers, o .pages)
+  -- with the eighth
+  pub with-pages : Early f h → pagesOk f h ≡ true → Ordered f h
+  with-pages o t =
+      record {
+        size = o .size;
+        machine = o .machine;
+        sectionTable = o .sectionTable;
+        symbolTable = o .symbolTable;
+        sections = o .sections;
+        names = o .names;
+        numbers = o .numbers;
+        pages = t;
+      }
+
+  -- the eight, with others behind them
+  module _ (cs : List Check) (e : firstFailed (recordChecks f h ++ cs) ≡ 0) where
+    pages-rest : firstFailed (pageChecks f h ++ cs) ≡ 0
+    pages-rest = sym (early-rest (pageChecks f h ++ cs) (early (pageChecks f h ++ cs) e)) ∙ e
+
+    pub ordered : Ordered f h
+    ordered = with-pages (early (pageChecks f h ++ cs) e) (check-holds _ _ _ pages-rest)
+
+    pub ordered-rest : firstFailed cs ≡ 0
+    ordered-rest = checks-hold _ _ _ pages-rest
+
+  -- where they are in order, the checks behind them decide
+  pub records-rest : (cs : List Check) → Ordered f h → firstFailed (recordChecks f h ++ cs) ≡ firstFailed cs
+  unfolding firstFailed pick
+  records-rest cs o = rw (o .size, o .machine, o .sectionTable, o .symbolTable, o .sections, o .names, o .numbers, o .pages)
 
 pub says-refused : (code : ℕ) (c : Counts) → (code ≡ 0 → ⊥) → Refused code ≡ answerBy code c
 unfolding answerBy pick
@@ -123,12 +150,10 @@ few-sections : (f : List ℕ) (h : Header) → sectionTableOk f h ≡ true → h
 unfolding sectionTableOk
 few-sections f h e = leb-true (h .sections) MAX-SECTIONS (and-left (leb (h .sections) MAX-SECTIONS) _ e)
 
-module _ (f : List ℕ) (h : Header) (code : ℕ) where
-  pub fits-is : h ≡ headerOf f → code ≡ firstFailed (recordChecks f h) → code ≡ 0 → Fits f h
-  fits-is q e z =
-      let o : Ordered f h = ordered f h [] (sym e ∙ z) in
-      record {
-        sections = few-sections f h (o .sectionTable);
-        symbols = few-symbols f h q (o .symbolTable);
-        pages = leb-true (mappedPages f h) MAX-PAGES (o .pages);
-      }
+pub fits-is : (f : List ℕ) (h : Header) → h ≡ headerOf f → Ordered f h → Fits f h
+fits-is f h q o =
+    record {
+      sections = few-sections f h (o .sectionTable);
+      symbols = few-symbols f h q (o .symbolTable);
+      pages = leb-true (mappedPages f h) MAX-PAGES (o .pages);
+    }

@@ -1,5 +1,5 @@
 -- What the parts of survey promise and ask.
-use mathlib.Core.List.{List, _∷_, _++_}
+use mathlib.Core.List.{List, _++_}
 use Prim.Native.Nat.{ℕ, _≤_}
 use lib.Dec.{leb}
 use lib.ListN.{length, replicate}
@@ -18,7 +18,8 @@ use Rattle.externs.specs.Slotted.{slotted}
 use Rattle.targets.specs.declared.Target.{Target}
 use Rattle.targets.specs.Table.{targetIn}
 use Rattle.survey.specs.declared.answer.Survey.{Survey}
-use Rattle.survey.specs.Survey.{check, firstFailed, externChecks, targetChecks, tallyBy, countsBy, answerBy}
+use Rattle.survey.specs.declared.answer.Survey.the-variants.{Refused}
+use Rattle.survey.specs.Survey.{firstFailed, externChecks, targetChecks, tallyBy, countsBy, answerBy}
 
 -- the file's records fit the limits, so that the local arrays hold them
 pub record Fits (f : List ℕ) (h : Header) : Type 0 where
@@ -26,15 +27,19 @@ pub record Fits (f : List ℕ) (h : Header) : Type 0 where
   pub symbols : h .symbols ≤ MAX-SYMBOLS
   pub pages : mappedPages f h ≤ MAX-PAGES
 
+-- an answer behind 8
+abbrev pub behindPages : List ℕ → Header → Survey → Survey
+behindPages f h s = pick (pagesOk f h) s (Refused PAGES)
+
 -- ---- the answer by homes and targets, with n extern names
 module _ (f : List ℕ) (h : Header) (home : ℕ → Offset) (target : ℕ → Target) (n : ℕ) where
   -- 10, 11 and the counts
   abbrev pub targetsAnswer : Survey
   targetsAnswer = answerBy (firstFailed (targetChecks (tallyBy f h home target))) (countsBy f h home n (tallyBy f h home target))
 
-  -- behind 8
+  -- the same behind 8
   abbrev pub plannedBy : Survey
-  plannedBy = answerBy (firstFailed (check (pagesOk f h) PAGES ∷ targetChecks (tallyBy f h home target))) (countsBy f h home n (tallyBy f h home target))
+  plannedBy = behindPages f h targetsAnswer
 
   -- behind 9
   abbrev pub externsAnswer : Survey

@@ -4,21 +4,25 @@ mod answer;
 pub use answer::Counts;
 pub use answer::Survey;
 use arch::Arch;
+use arch::RVA;
 use externs::Names;
 use fixups::Tally;
 use object::Header;
 ghost use mathlib.Core.Path.{_≡_};
-ghost use Prim.Native.Nat.{_≤_, _<_};
+ghost use Prim.Native.Nat.{_+_, _^_, _≤_, _<_};
 ghost use Rattle.limits.specs.Limits.{FEW-SYMBOLS, MAX-PAGES};
+ghost use Rattle.arch.specs.Address.{rva};
 ghost use Rattle.layout.specs.Layout.{undefStart, mappedPages};
 ghost use Rattle.homes.specs.Home.{homeIn};
 ghost use Rattle.targets.specs.Table.{targetIn};
-ghost use Rattle.survey.specs.Survey.{firstFailed, recordChecks, targetChecks, tallyBy, countsBy, answerBy, surveyOf};
-ghost use Rattle.survey.specs.Surveying.{targetsAnswer, plannedBy, answerIn, homeWords, startWords, codeWords};
+ghost use Rattle.bounds.specs.Bounds.{relocationTotal};
+ghost use Rattle.fixups.specs.Tallying.{AtMost};
+ghost use Rattle.survey.specs.Survey.{firstFailed, earlyChecks, targetChecks, tallyBy, countsBy, answerBy, surveyOf};
+ghost use Rattle.survey.specs.Surveying.{behindPages, targetsAnswer, plannedBy, answerIn, homeWords, startWords, codeWords};
 
-// The first of refusals 1 to 8 that applies, or 0.
+// The first of refusals 1 to 7 that applies, or 0.
 pub fn records_code(f: &[u8], h: Header) -> u64
-    ensures { λ r. ⌜ r ≡ firstFailed (recordChecks (now (f .entry)) h) ⌝ }
+    ensures { λ r. ⌜ r ≡ firstFailed (earlyChecks (now (f .entry)) h) ⌝ }
 {
     if !bounds::size_ok(f) {
         return refusal::FILE_SIZE;
@@ -41,29 +45,30 @@ pub fn records_code(f: &[u8], h: Header) -> u64
     if !checks::numbers_ok(f, h) {
         return refusal::SECTION_NUMBER;
     }
-    if !checks::pages_ok(f, h) {
-        return refusal::PAGES;
-    }
     0
 }
 
-fn tally_by(f: &[u8], h: Header, homes: &[u32], starts: &[u32], codes: &[u16]) -> Tally
-    requires { ⌜ mappedPages (now f) h ≤ MAX-PAGES ⌝ }
-    ensures { λ r. ⌜ r ≡ tallyBy (now (f .entry)) h (homeIn (now (homes .entry))) (targetIn (now (homes .entry)) (now (starts .entry)) (undefStart (now (f .entry)) h) (now (codes .entry))) ⌝ }
+// By UNDEF's start, which is found once for all that ask for it.
+fn tally_by(f: &[u8], h: Header, homes: &[u32], starts: &[u32], undef: RVA, codes: &[u16]) -> Tally
+    ensures { λ r. ⌜ (mappedPages (now (f .entry)) h ≤ MAX-PAGES → undef ≡ rva (undefStart (now (f .entry)) h) → r ≡ tallyBy (now (f .entry)) h (homeIn (now (homes .entry))) (targetIn (now (homes .entry)) (now (starts .entry)) (undefStart (now (f .entry)) h) (now (codes .entry)))) ⌝ }
+    ensures { λ r. ⌜ r .passed + r .skips + r .refused + r .fixups ≡ relocationTotal (now (f .entry)) h ⌝ }
+    ensures { λ r. ⌜ AtMost r (2 ^ 48) ⌝ }
 {
-    let undef = layout::undef_offset(f, h);
-    let pages = layout::page_total(f, h);
+    let offset = layout::offset_word(undef);
+    let pages = layout::page_word(undef);
     let arch = Arch::by_machine(h.machine);
-    fixups::tally_of(arch, f, h, homes, starts, undef, codes, pages)
+    fixups::tally_of(arch, f, h, homes, starts, offset, codes, pages)
 }
 
-fn counts_by(f: &[u8], h: Header, homes: &[u32], n: usize, t: Tally) -> Counts
-    ensures { λ r. ⌜ r ≡ countsBy (now (f .entry)) h (homeIn (now (homes .entry))) n t ⌝ }
+// Each relocation comes to one of four outcomes, so that their numbers add up to all of them.
+fn counts_by(f: &[u8], h: Header, homes: &[u32], undef: RVA, n: usize, t: Tally) -> Counts
+    requires { ⌜ (t .passed + t .skips + t .refused + t .fixups ≡ relocationTotal (now f) h) × AtMost t (2 ^ 48) ⌝ }
+    ensures { λ r. ⌜ (undef ≡ rva (undefStart (now (f .entry)) h) → r ≡ countsBy (now (f .entry)) h (homeIn (now (homes .entry))) n t) ⌝ }
 {
-    let pages = layout::mapped_pages(f, h);
+    let pages = layout::pages_to(undef);
     let records = layout::table_records(f, h) as u64;
     let symbols = homes::listed_total(f, h, homes) as u64;
-    let relocations = bounds::relocation_total(f, h);
+    let relocations = t.passed + t.skips + t.refused + t.fixups;
     Counts {
         pages: pages,
         sections: records,
@@ -101,87 +106,98 @@ fn survey_targets(
     h: Header,
     homes: &[u32],
     starts: &[u32],
+    undef: RVA,
     codes: &[u16],
     n: usize,
 ) -> Survey
-    requires { ⌜ mappedPages (now f) h ≤ MAX-PAGES ⌝ }
-    ensures { λ r. ⌜ r ≡ targetsAnswer (now (f .entry)) h (homeIn (now (homes .entry))) (targetIn (now (homes .entry)) (now (starts .entry)) (undefStart (now (f .entry)) h) (now (codes .entry))) n ⌝ }
+    ensures { λ r. ⌜ (mappedPages (now (f .entry)) h ≤ MAX-PAGES → undef ≡ rva (undefStart (now (f .entry)) h) → r ≡ targetsAnswer (now (f .entry)) h (homeIn (now (homes .entry))) (targetIn (now (homes .entry)) (now (starts .entry)) (undefStart (now (f .entry)) h) (now (codes .entry))) n) ⌝ }
 {
-    let t = tally_by(f, h, homes, starts, codes);
-    verdict(t, counts_by(f, h, homes, n, t))
+    let t = tally_by(f, h, homes, starts, undef, codes);
+    verdict(t, counts_by(f, h, homes, undef, n, t))
 }
 
-// The same for any lists, behind refusal 8.
+// The same for any lists, behind refusal 8, where UNDEF starts there.
 pub fn survey_planned(
     f: &[u8],
     h: Header,
     homes: &[u32],
     starts: &[u32],
+    undef: RVA,
     codes: &[u16],
     n: usize,
 ) -> Survey
-    ensures { λ r. ⌜ r ≡ plannedBy (now (f .entry)) h (homeIn (now (homes .entry))) (targetIn (now (homes .entry)) (now (starts .entry)) (undefStart (now (f .entry)) h) (now (codes .entry))) n ⌝ }
+    ensures { λ r. ⌜ (undef ≡ rva (undefStart (now (f .entry)) h) → r ≡ plannedBy (now (f .entry)) h (homeIn (now (homes .entry))) (targetIn (now (homes .entry)) (now (starts .entry)) (undefStart (now (f .entry)) h) (now (codes .entry))) n) ⌝ }
 {
-    if checks::pages_ok(f, h) {
-        survey_targets(f, h, homes, starts, codes, n)
+    if checks::pages_fit(undef) {
+        survey_targets(f, h, homes, starts, undef, codes, n)
     } else {
         Survey::Refused(refusal::PAGES)
     }
 }
 
 // Refusal 9, and what follows.
-fn survey_externs(f: &[u8], h: Header, homes: &[u32], starts: &[u32], codes: &mut [u16]) -> Survey
-    requires { ⌜ mappedPages (now f) h ≤ MAX-PAGES ⌝ }
+fn survey_externs(
+    f: &[u8],
+    h: Header,
+    homes: &[u32],
+    starts: &[u32],
+    undef: RVA,
+    codes: &mut [u16],
+) -> Survey
+    requires { ⌜ (mappedPages (now f) h ≤ MAX-PAGES) × (undef ≡ rva (undefStart (now f) h)) ⌝ }
     ensures { λ r. ⌜ r ≡ answerIn (now (f .entry)) h (now (homes .entry)) (now (starts .entry)) (now (codes .entry)) ⌝ }
 {
     let mut slots = [0u32; limits::EXTERN_ROOM];
     match externs::collect(f, h, codes, &mut slots) {
         Names::TooMany => Survey::Refused(refusal::EXTERNS),
-        Names::Count(n) => survey_targets(f, h, homes, starts, codes, n),
+        Names::Count(n) => survey_targets(f, h, homes, starts, undef, codes, n),
     }
 }
 
 // What each symbol record comes to, found once: of few records in a small array.
-fn survey_few(f: &[u8], h: Header, homes: &[u32], starts: &[u32]) -> Survey
-    requires { ⌜ (mappedPages (now f) h ≤ MAX-PAGES) × (h .symbols ≤ FEW-SYMBOLS) ⌝ }
+fn survey_few(f: &[u8], h: Header, homes: &[u32], starts: &[u32], undef: RVA) -> Survey
+    requires { ⌜ (mappedPages (now f) h ≤ MAX-PAGES) × (undef ≡ rva (undefStart (now f) h)) × (h .symbols ≤ FEW-SYMBOLS) ⌝ }
     ensures { λ r. ⌜ r ≡ answerIn (now (f .entry)) h (now (homes .entry)) (now (starts .entry)) (codeWords (now (f .entry)) h) ⌝ }
 {
     let mut codes = [0u16; limits::FEW_SYMBOLS];
     codes::fill_codes(f, h, &mut codes);
-    survey_externs(f, h, homes, starts, &mut codes)
+    survey_externs(f, h, homes, starts, undef, &mut codes)
 }
 
 // Of more in a large one.
-fn survey_many(f: &[u8], h: Header, homes: &[u32], starts: &[u32]) -> Survey
-    requires { ⌜ (mappedPages (now f) h ≤ MAX-PAGES) × (FEW-SYMBOLS < h .symbols) ⌝ }
+fn survey_many(f: &[u8], h: Header, homes: &[u32], starts: &[u32], undef: RVA) -> Survey
+    requires { ⌜ (mappedPages (now f) h ≤ MAX-PAGES) × (undef ≡ rva (undefStart (now f) h)) × (FEW-SYMBOLS < h .symbols) ⌝ }
     ensures { λ r. ⌜ r ≡ answerIn (now (f .entry)) h (now (homes .entry)) (now (starts .entry)) (codeWords (now (f .entry)) h) ⌝ }
 {
     let mut codes = [0u16; limits::MAX_SYMBOLS];
     codes::fill_codes(f, h, &mut codes);
-    survey_externs(f, h, homes, starts, &mut codes)
+    survey_externs(f, h, homes, starts, undef, &mut codes)
 }
 
-fn survey_symbols(f: &[u8], h: Header, homes: &[u32], starts: &[u32]) -> Survey
-    requires { ⌜ mappedPages (now f) h ≤ MAX-PAGES ⌝ }
+fn survey_symbols(f: &[u8], h: Header, homes: &[u32], starts: &[u32], undef: RVA) -> Survey
+    requires { ⌜ (mappedPages (now f) h ≤ MAX-PAGES) × (undef ≡ rva (undefStart (now f) h)) ⌝ }
     ensures { λ r. ⌜ r ≡ answerIn (now (f .entry)) h (now (homes .entry)) (now (starts .entry)) (codeWords (now (f .entry)) h) ⌝ }
 {
     if h.symbols as usize <= limits::FEW_SYMBOLS {
-        survey_few(f, h, homes, starts)
+        survey_few(f, h, homes, starts, undef)
     } else {
-        survey_many(f, h, homes, starts)
+        survey_many(f, h, homes, starts, undef)
     }
 }
 
-// Each section's home and start, found once.
+// Refusal 8, by what the sections' starts come to. Each section's home and start is found once.
 fn survey_sections(f: &[u8], h: Header) -> Survey
-    requires { ⌜ mappedPages (now f) h ≤ MAX-PAGES ⌝ }
-    ensures { λ r. ⌜ r ≡ answerIn (now (f .entry)) h (homeWords (now (f .entry)) h) (startWords (now (f .entry)) h) (codeWords (now (f .entry)) h) ⌝ }
+    ensures { λ r. ⌜ r ≡ behindPages (now (f .entry)) h (answerIn (now (f .entry)) h (homeWords (now (f .entry)) h) (startWords (now (f .entry)) h) (codeWords (now (f .entry)) h)) ⌝ }
 {
-    let mut homes = [0u32; limits::MAX_SECTIONS];
-    homes::fill_homes(f, h, &mut homes);
     let mut starts = [0u32; limits::MAX_SECTIONS];
-    layout::fill_starts(f, h, &mut starts);
-    survey_symbols(f, h, &homes, &starts)
+    let undef = layout::fill_starts(f, h, &mut starts);
+    if checks::pages_fit(undef) {
+        let mut homes = [0u32; limits::MAX_SECTIONS];
+        homes::fill_homes(f, h, &mut homes);
+        survey_symbols(f, h, &homes, &starts, undef)
+    } else {
+        Survey::Refused(refusal::PAGES)
+    }
 }
 
 // The counts of a file, or the first refusal that applies.

@@ -53,14 +53,14 @@ module _ (f : List ℕ) (h : Header) (base : ℕ) (home : ℕ → Offset) (recor
   pub symbols-none : (l : List ℕ) → Written l l 0 0
   symbols-none l = picked-none (listed f h home) (symbolWords f h base home records) SYMBOL-BYTES l
 
-  module _ (l b : List ℕ) (n j left : ℕ) (s : Symbol) (p : Place) (t : Bool) where
-    pub symbols-more : (c : List ℕ) → Written l b n j → t ≡ (eqb left 0 && isSome (placeHome home p)) → left ≡ auxiliariesLeft f h j → p ≡ placeOf s → s ≡ symbolOf f h j → t ≡ true
+  module _ (l b : List ℕ) (n j left : ℕ) (s : Symbol) (t : Bool) where
+    pub symbols-more : (c : List ℕ) → Written l b n j → t ≡ (eqb left 0 && isSome (placeHome home (placeOf s))) → left ≡ auxiliariesLeft f h j → s ≡ symbolOf f h j → t ≡ true
         → c ≡ splice b (SYMBOL-BYTES * n) (wordBytes (symbolWords f h base home records j)) → Written l c (n + 1) (j + 1)
-    symbols-more c o e a w q y d =
-        picked-more (listed f h home) (symbolWords f h base home records) SYMBOL-BYTES j n l b t (listed-is f h home j left s p e a w q) o (symbol-long f h base home records j) c y d
+    symbols-more c o e a q y d =
+        picked-more (listed f h home) (symbolWords f h base home records) SYMBOL-BYTES j n l b t (listed-is f h home j left s e a q) o (symbol-long f h base home records j) c y d
 
-    pub symbols-same : Written l b n j → t ≡ (eqb left 0 && isSome (placeHome home p)) → left ≡ auxiliariesLeft f h j → p ≡ placeOf s → s ≡ symbolOf f h j → t ≡ false → Written l b n (j + 1)
-    symbols-same o e a w q y = picked-same (listed f h home) (symbolWords f h base home records) SYMBOL-BYTES j n l b t (listed-is f h home j left s p e a w q) o y
+    pub symbols-same : Written l b n j → t ≡ (eqb left 0 && isSome (placeHome home (placeOf s))) → left ≡ auxiliariesLeft f h j → s ≡ symbolOf f h j → t ≡ false → Written l b n (j + 1)
+    symbols-same o e a q y = picked-same (listed f h home) (symbolWords f h base home records) SYMBOL-BYTES j n l b t (listed-is f h home j left s e a q) o y
 
   pub symbols-end : (l b : List ℕ) (j n m : ℕ) → Written l b n j → j ≤ m → m ≤ j → m ≡ h .symbols → b ≡ splice l 0 (symbolTable f h base home records)
   symbols-end l b j n m o a k z =

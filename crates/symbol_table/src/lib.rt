@@ -1,19 +1,18 @@
 // The symbol table that load writes, as bytes: records of whole words. The crate `homes` says which symbols are listed, and where.
 use arch::VA;
-use kinds::Place;
 use object::Header;
 use object::Symbol;
 ghost use mathlib.Core.Path.{_≡_};
 ghost use Prim.Native.Nat.{_*_};
 ghost use Rattle.limits.specs.Records.{SYMBOL-BYTES};
 ghost use Rattle.le.specs.Le.{splice};
-ghost use Rattle.object.specs.Symbol.{symbolOf, placeOf};
+ghost use Rattle.object.specs.Symbol.{symbolOf};
 ghost use Rattle.stops.specs.Stops.{stopsOf};
 ghost use Rattle.homes.specs.Home.{homeIn};
 ghost use Rattle.words.specs.Words.{wordBytes};
 ghost use Rattle.symbol_table.specs.Symbols.{symbolWords, symbolTable};
 
-// The record of symbol j, whose record in the file is s and says the place p, at place n of the table.
+// The record of symbol j, whose record in the file is s, at place n of the table.
 fn put_symbol(
     f: &[u8],
     h: Header,
@@ -22,14 +21,14 @@ fn put_symbol(
     records: &[u32],
     stops: &[u32],
     s: Symbol,
-    p: Place,
     j: u32,
     n: u32,
     b: &mut [u8],
 )
-    requires { ⌜ (now stops ≡ stopsOf (now f) h) × (s ≡ symbolOf (now f) h j) × (p ≡ placeOf s) ⌝ }
+    requires { ⌜ (now stops ≡ stopsOf (now f) h) × (s ≡ symbolOf (now f) h j) ⌝ }
     ensures { λ _. ⌜ now (b .exit) ≡ splice (now (b .entry)) (SYMBOL-BYTES * n) (wordBytes (symbolWords (now (f .entry)) h (base .0) (homeIn (now (homes .entry))) (now (records .entry)) j)) ⌝ }
 {
+    let p = object::place_of(s);
     let offset = homes::listed_offset(homes, p, object::listed_of(s));
     let address = std::num::wrapping_add_u64(base.0, offset.0);
     let name = stops::symbol_name(f, h, stops, j);
@@ -65,11 +64,10 @@ fn write_listed(
     let mut j: u32 = 0;
     while j < m {
         let s = object::read_symbol(f, h, j);
-        let p = object::place_of(s);
-        let found = homes::is_listed(homes, left, p);
+        let found = homes::is_listed(homes, left, s);
         left = object::left_by(left, s.auxiliaries);
         if found {
-            put_symbol(f, h, base, homes, records, stops, s, p, j, n, b);
+            put_symbol(f, h, base, homes, records, stops, s, j, n, b);
             n += 1;
             j += 1;
         } else {

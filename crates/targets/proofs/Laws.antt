@@ -1,8 +1,8 @@
 -- The ways through the code. Assumes nothing.
 use mathlib.Core.Path.{_≡_}
-use mathlib.Core.Bool.{Bool, true, false, _||_}
+use mathlib.Core.Bool.{true, false}
 use mathlib.Core.List.{List}
-use Prim.Native.Nat.{ℕ, _+_, _-_, _*_, _≤_}
+use Prim.Native.Nat.{ℕ, _+_, _-_, _*_}
 use lib.Dec.{eqb, leb, ltb}
 use lib.ListN.{getD}
 use Rattle.util.specs.Pick.{pick}
@@ -12,7 +12,7 @@ use Rattle.arch.specs.declared.Offset.{Offset}
 use Rattle.arch.specs.declared.Offset.the-variants.{At, None}
 use Rattle.arch.specs.Address.{rva}
 use Rattle.homes.specs.Home.{byNumber}
-use Rattle.codes.specs.Code.{REFUSED, UNDEF-RECORD, UNDEF-EXTERN, HOMES, RECORDS, SLOTS}
+use Rattle.codes.specs.Code.{REFUSED, UNDEF-RECORD, HOMES, RECORDS, SLOTS}
 use Rattle.targets.specs.declared.Skip.the-variants.{NoSymbol, NoHome, NoSlot}
 use Rattle.targets.specs.declared.Target.{Target}
 use Rattle.targets.specs.declared.Target.the-variants.{Home, Named, Slot, Missing, Refused}
@@ -40,14 +40,14 @@ module _ (undef c : ℕ) where
     unfolding plainTarget pick
     plain-refused e = rw (some, e)
 
-    module _ (more : leb c REFUSED ≡ false) (b : Bool) (is : b ≡ (eqb c UNDEF-RECORD || eqb c UNDEF-EXTERN)) where
-      pub plain-undef : b ≡ true → Named (rva undef) ≡ plainTarget undef c
+    module _ (more : leb c REFUSED ≡ false) where
+      pub plain-undef : eqb c UNDEF-RECORD ≡ true → Named (rva undef) ≡ plainTarget undef c
       unfolding plainTarget pick
-      plain-undef t = rw (some, more, ← is, t)
+      plain-undef t = rw (some, more, t)
 
-      pub plain-slot : b ≡ false → Missing NoSlot ≡ plainTarget undef c
+      pub plain-slot : eqb c UNDEF-RECORD ≡ false → Missing NoSlot ≡ plainTarget undef c
       unfolding plainTarget pick
-      plain-slot t = rw (some, more, ← is, t)
+      plain-slot t = rw (some, more, t)
 
 pub ruleset plain-ways = (plain-none, plain-refused, plain-undef, plain-slot)
 

@@ -1,6 +1,6 @@
 -- The targets by the codes that are kept of the symbols (crates `codes` and `externs`): each is what its symbol comes to (`targets-kept`).
-use mathlib.Core.Path.{_≡_, refl, ap, _∙_, fun-ext}
-use mathlib.Core.Bool.{Bool, true, false, _||_}
+use mathlib.Core.Path.{_≡_, refl, ap, _∙_}
+use mathlib.Core.Bool.{Bool, true, false}
 use mathlib.Core.List.{List}
 use mathlib.Core.Logic.{⊎-elim}
 use Prim.Native.Nat.{ℕ, _+_, _-_, _*_, _%_, _≤_, _<_}
@@ -8,12 +8,12 @@ use native.Mathlib.Omega.{arith}
 use lib.Dec.{eqb, leb, ltb}
 use lib.ListN.{length, getD}
 use borrow.Author.Tests.{ne-eqb, lt-ltb, le-ltb, lt-leb, le-leb}
-use Rattle.util.specs.Pick.{pick, yes-no, le-or-lt}
+use Rattle.util.specs.Pick.{pick, le-or-lt}
 use Rattle.util.specs.Prefix.{length-list, list-at}
 use Rattle.le.specs.Le.{splice-above}
 use Rattle.limits.specs.Limits.{SLOT-SIZE}
 use Rattle.arch.specs.declared.Offset.{Offset}
-use Rattle.arch.specs.declared.Offset.the-variants.{At, None}
+use Rattle.arch.specs.declared.Offset.the-variants.{None}
 use Rattle.arch.specs.Address.{rva}
 use Rattle.object.specs.declared.Header.{Header}
 use Rattle.object.specs.Symbol.{primary}
@@ -32,7 +32,7 @@ use Rattle.externs.specs.declared.Found.{Found}
 use Rattle.externs.specs.declared.Found.the-variants.{Index, Nothing}
 use Rattle.externs.specs.Slot.{slotOf}
 use Rattle.externs.specs.SlotLaws.{slot-inside}
-use Rattle.externs.specs.Slotted.{foundCode, takesSlot, slottedCode, slottedAt, slottedTo, slotted}
+use Rattle.externs.specs.Slotted.{foundCode, takesSlot, settled, slottedCode, slottedAt, slottedTo, slotted}
 use Rattle.targets.specs.declared.Skip.the-variants.{NoSymbol, NoSlot}
 use Rattle.targets.specs.declared.Target.{Target}
 use Rattle.targets.specs.declared.Target.the-variants.{Home, Named, Slot, Missing, Refused}
@@ -41,7 +41,7 @@ use Rattle.targets.specs.Target.{homeTarget, slotTarget, namedTarget, ru
 -- a code that stands for one thing
 unfoldable pub plainTarget : ℕ → ℕ → Target
 plainTarget undef c =
-    pick (eqb c 0) (Missing NoSymbol) (pick (leb c REFUSED) Refused (pick (eqb c UNDEF-RECORD || eqb c UNDEF-EXTERN) (Named (rva undef)) (Missing NoSlot)))
+    pick (eqb c 0) (Missing NoSymbol) (pick (leb c REFUSED) Refused (pick (eqb c UNDEF-RECORD) (Named (rva undef)) (Missing NoSlot)))
 
 -- any code: `home` says where a section's home starts, `starts` has where the sections do
 unfoldable pub codeTarget : (ℕ → Offset) → List ℕ → ℕ → ℕ → Target
@@ -86,10 +86,6 @@ module _ (home : ℕ → Offset) (starts : List ℕ) (undef : ℕ) where
   unfolding codeTarget plainTarget pick
   of-undef = refl
 
-  of-undef-extern : codeTarget home starts undef UNDEF-EXTERN ≡ Named (rva undef)
-  unfolding codeTarget plainTarget pick
-  of-undef-extern = refl
-
   of-refused : codeTarget home starts undef REFUSED ≡ Refused
   unfolding codeTarget plainTarget pick
   of-refused = refl
@@ -108,8 +104,9 @@ module _ (home : ℕ → Offset) (starts : List ℕ) (undef : ℕ) where
   of-found (Index e) few = of-slot e (few e refl)
   of-found Nothing few = of-none
 
-high-takes : (c : ℕ) → HOMES ≤ c → takesSlot c ≡ false
-high-takes c k = rw (ne-eqb c SLOT (λ e. omega arith), ne-eqb c EXTERN (λ e. omega arith))
+high-left : (c : ℕ) (x : Found) → HOMES ≤ c → slottedCode c x ≡ c
+unfolding slottedCode settled pick
+high-left c x k = rw (ne-eqb c SLOT (λ e. omega arith), ne-eqb c EXTERN (λ e. omega arith), ne-eqb c UNDEF-EXTERN (λ e. omega arith))
 
 -- ---- of a symbol's own record, and of any
 module _ (f : List ℕ) (h : Header) (home : ℕ → Offset) (starts : List ℕ) (slot : List ℕ → Found) (j : ℕ) (few : (e : ℕ) → slot (symbolText f h j) ≡ Index e → e < SPAN) where
@@ -124,18 +121,17 @@ module _ (f : List ℕ) (h : Header) (home : ℕ → Offset) (starts : List ℕ)
   unfolding slottedCode pick
   taken c t = rw t (of-found home starts (undefStart f h) (slot (symbolText f h j)) few)
 
-  left : (c : ℕ) → takesSlot c ≡ false → decoded c ≡ codeTarget home starts (undefStart f h) c
-  unfolding slottedCode pick
-  left c t = rw t
+  left : (c d : ℕ) → slottedCode c (slot (symbolText f h j)) ≡ d → decoded c ≡ codeTarget home starts (undefStart f h) d
+  left c d t = rw t
 
   module _ (begins : (i : ℕ) → i < h .sections → getD starts i 0 ≡ startAt f h i) (small : h .sections ≤ SPAN) where
     by-name : (x : Homes.Home) (b : Bool) → ((i : ℕ) → x ≡ Loaded i → i < h .sections) → decoded (namedCode x b) ≡ namedTarget (homeStart f h x) slotAt
-    unfolding namedCode namedTarget homeStart pick
+    unfolding namedCode namedTarget homeStart slottedCode settled pick
     by-name (Loaded i) b within =
         let k : i < h .sections = within i refl in
-        left (RECORDS + i % SPAN) (high-takes (RECORDS + i % SPAN) (omega arith)) ∙ of-record home starts (undefStart f h) i (omega arith) ∙ ap (λ (s : ℕ). Named (rva s)) (begins i k)
-    by-name Undef true within = left UNDEF-RECORD refl ∙ of-undef home starts (undefStart f h)
-    by-name Undef false within = left UNDEF-EXTERN refl ∙ of-undef-extern home starts (undefStart f h)
+        left (RECORDS + i % SPAN) (RECORDS + i % SPAN) (high-left (RECORDS + i % SPAN) (slot (symbolText f h j)) (omega arith)) ∙ of-record home starts (undefStart f h) i (omega arith) ∙ ap (λ (s : ℕ). Named (rva s)) (begins i k)
+    by-name Undef true within = left UNDEF-RECORD UNDEF-RECORD refl ∙ of-undef home starts (undefStart f h)
+    by-name Undef false within = left UNDEF-EXTERN UNDEF-RECORD refl ∙ of-undef home starts (undefStart f h)
     by-name Nowhere true within = taken SLOT refl
     by-name Nowhere false within = taken EXTERN refl
 
@@ -144,20 +140,20 @@ module _ (f : List ℕ) (h : Header) (home : ℕ → Offset) (starts : List ℕ)
 
     by-rule : (r : Rule) → ((n : ℕ) → r ≡ rules.Section n → n < SPAN)
         → decoded (ruleCode r (namedCode (namedRecord f h (symbolText f h j)) (someSectionNamed f h (symbolText f h j)))) ≡ ruleTarget f h home (undefStart f h) slot r j
-    unfolding ruleCode ruleTarget
+    unfolding ruleCode ruleTarget slottedCode settled pick
     by-rule (rules.Section n) low =
-        left (HOMES + n % SPAN) (high-takes (HOMES + n % SPAN) (omega arith)) ∙ of-home home starts (undefStart f h) n (low n refl)
+        left (HOMES + n % SPAN) (HOMES + n % SPAN) (high-left (HOMES + n % SPAN) (slot (symbolText f h j)) (omega arith)) ∙ of-home home starts (undefStart f h) n (low n refl)
     by-rule rules.Extern low = taken EXTERN refl
     by-rule rules.Slot low = taken SLOT refl
     by-rule rules.Name low =
         by-name (namedRecord f h (symbolText f h j)) (someSectionNamed f h (symbolText f h j)) (named-within (symbolText f h j))
-    by-rule rules.Refused low = left REFUSED refl ∙ of-refused home starts (undefStart f h)
+    by-rule rules.Refused low = left REFUSED REFUSED refl ∙ of-refused home starts (undefStart f h)
 
     by-record : (b : Bool) → ((n : ℕ) → b ≡ true → symbolRule f h j ≡ rules.Section n → n < SPAN)
         → decoded (pick b (symbolCode f h j) AUXILIARY) ≡ pick b (ruleTarget f h home (undefStart f h) slot (symbolRule f h j) j) Refused
-    unfolding pick
+    unfolding slottedCode settled pick
     by-record true low = by-rule (symbolRule f h j) (λ n e. low n refl e)
-    by-record false low = left AUXILIARY refl ∙ of-auxiliary home starts (undefStart f h)
+    by-record false low = left AUXILIARY AUXILIARY refl ∙ of-auxiliary home starts (undefStart f h)
 
 -- what the file has to be: section numbers and sections that the codes have room for
 pub record Coded (f : List ℕ) (h : Header) : Type 0 where

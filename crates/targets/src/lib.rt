@@ -45,7 +45,8 @@ fn plain_target(undef: u32, c: u16) -> Target
     if refused {
         return Target::Refused;
     }
-    if util::either(c == codes::UNDEF_RECORD, c == codes::UNDEF_EXTERN) {
+    let undefined = c == codes::UNDEF_RECORD;
+    if undefined {
         Target::Named(RVA(undef as u64))
     } else {
         Target::Missing(Skip::NoSlot)

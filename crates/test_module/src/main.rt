@@ -9,7 +9,7 @@ mod say;
 
 use arch::Arch;
 use arch::VA;
-use load::Load;
+use loading::Load;
 use survey::Counts;
 
 const BASE: u64 = 0x20000000;

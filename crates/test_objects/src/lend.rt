@@ -2,7 +2,7 @@
 use crate::act;
 use crate::say;
 use arch::VA;
-use load::Load;
+use loading::Load;
 use survey::Counts;
 
 // What stands in every byte before.

@@ -5,7 +5,7 @@ use limits::SYMBOL_BYTES;
 use limits::SYMBOL_HOME;
 use limits::SYMBOL_NUMBER;
 use limits::WORD;
-use load::Load;
+use loading::Load;
 use patch::Patch;
 use survey::Counts;
 use survey::Survey;

@@ -1,5 +1,5 @@
 use borrow.Author.Needs.{needs}
-use Rattle.checks.proofs.Laws.{within-by}
+use Rattle.checks.proofs.Laws.{within-ways}
 use Rattle.checks.proofs.number_ok.Statement.{statement}
 use Rattle.checks.proofs.number_ok.Tie as tie
 
@@ -7,7 +7,5 @@ pub number-ok-spec : {M : Type 1} → statement M
 number-ok-spec =
     tie.close
     (tie.spec
-    (λ c. search needs)
-    (λ c. search needs)
-    (λ c. search needs)
-    (λ c. search (needs, within-by)))
+    (λ c. search (needs, within-ways))
+    (λ c. search (needs, within-ways)))

@@ -1,5 +1,5 @@
 use borrow.Author.Needs.{needs}
-use Rattle.externs.proofs.Laws.{table-step, table-rising, add-seen, add-new}
+use Rattle.externs.proofs.Spending.{kept-step, kept-rising, kept-more}
 use native.Mathlib.Omega.{arith}
 use Rattle.externs.proofs.add.Statement.{statement}
 use Rattle.externs.proofs.add.Tie as tie
@@ -8,12 +8,9 @@ pub add-spec : {M : Type 1} → statement M
 add-spec =
     tie.close
     (tie.spec
-    (λ c. search needs)
-    (λ c κs. (omega arith, omega arith, search (needs, table-step), search (needs, table-rising)))
-    (λ c. search needs)
-    (λ c. search needs)
-    (λ c. (search (needs, add-seen), search needs))
+    (λ c κs. (omega arith, omega arith, search (needs, kept-step), search (needs, kept-rising)))
+    (λ c κs. search needs)
     (λ c. search needs)
     (λ c. search needs)
     (λ c. search needs)
-    (λ c. (search needs, search (needs, add-new))))
+    (λ c. (search needs, (search (needs, kept-more), search needs))))

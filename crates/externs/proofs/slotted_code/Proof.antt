@@ -8,7 +8,8 @@ slotted-code-spec =
     tie.close
     (tie.spec
     (λ c. search (needs, slot-ways))
-    (λ c. search (needs, slot-ways))
-    (λ c. search (needs, slot-ways))
+    (λ c κs. search needs)
+    (λ c κs. search needs)
+    (λ c κs. search needs)
     (λ c. search (needs, slot-ways))
     (λ c. search (needs, slot-ways)))

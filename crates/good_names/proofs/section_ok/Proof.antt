@@ -8,5 +8,4 @@ section-ok-spec =
     tie.close
     (tie.spec
     (λ c. search (needs, section-good))
-    (λ c. search (needs, section-good))
     (λ c. search (needs, section-good)))

@@ -8,5 +8,4 @@ symbol-ok-spec =
     tie.close
     (tie.spec
     (λ c. search (needs, symbol-good))
-    (λ c. search (needs, symbol-good))
     (λ c. search (needs, symbol-good)))

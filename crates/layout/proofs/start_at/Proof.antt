@@ -1,6 +1,6 @@
 use borrow.Author.Needs.{needs}
 use Rattle.layout.proofs.Laws.{start-loop}
-use Prim.Native.Nat.{_-_, _*_, _≤_}
+use Prim.Native.Nat.{_-_, _*_, _^_, _≤_, _<_}
 use mathlib.Core.Path.{_≡_}
 use native.Mathlib.Omega.{arith}
 use Rattle.layout.specs.Layout.{startAt}
@@ -8,7 +8,7 @@ use Rattle.layout.proofs.start_at.Statement.{statement}
 use Rattle.layout.proofs.start_at.Tie as tie
 
 abbrev Inv-loop : tie.InvT-loop
-Inv-loop f h i at₀ k₀ at k = (k ≤ i) × (at ≤ 17179869184 * k) × (at ≡ startAt f h k)
+Inv-loop f h i at₀ k₀ at k = (k ≤ i) × (at ≤ 17179869184 * k) × (at < 2 ^ 60) × (at ≡ startAt f h k)
 
 abbrev μ-loop : tie.MeasureT-loop
 μ-loop f h i at₀ k₀ at k = i - k

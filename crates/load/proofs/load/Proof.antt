@@ -7,10 +7,6 @@ pub load-spec : {M : Type 1} → statement M
 load-spec =
     tie.close
     (tie.spec
-    (λ c κs. search needs)
-    (λ c. search needs)
-    (λ c κs. search (needs, sizes))
-    (λ c κs. search (needs, sizes))
     (λ c. search needs)
     (λ c. search needs)
     (λ c. search needs)
@@ -24,6 +20,12 @@ load-spec =
     (λ c. search needs)
     (λ c. search needs)
     (λ c. search needs)
+    (λ c. c .before .before .before .before .before .before .before .before .before .before .before .before .before .before .before .load-with .ensures (search (needs, sizes)))
     (λ c. search needs)
     (λ c. search needs)
-    (λ c. search needs))
+    (λ c. search needs)
+    (λ c. search needs)
+    (λ c. search needs)
+    (λ c. search needs)
+    (λ c. search needs)
+    (λ c. c .before .before .before .before .before .before .before .before .before .before .before .before .before .before .before .load-with2 .ensures (search (needs, sizes))))

@@ -1,5 +1,6 @@
 use borrow.Author.Needs.{needs}
-use Rattle.plan.proofs.Laws.{pages-room, plans-no, plans-yes}
+use Rattle.checks.specs.CheckLaws.{pages-few}
+use Rattle.plan.proofs.Laws.{plans-no, plans-large, plans-yes}
 use Rattle.plan.proofs.plan_file.Statement.{statement}
 use Rattle.plan.proofs.plan_file.Tie as tie
 
@@ -12,9 +13,12 @@ plan-file-spec =
     (λ c. search needs)
     (λ c. search needs)
     (λ c. search needs)
-    (λ c. search (needs, pages-room))
+    (λ c. search needs)
+    (λ c. search (needs, pages-few))
     (λ c. search needs)
     (λ c. search needs)
     (λ c. search needs)
-    (λ c. plans-yes _ _ _ _ _ _ _ _ _ (c .before .before .before .before .before .before .before .before .before .before .before .before .before .before .before .before .before .before .before .before .first-code .ensures) (c .before .before .before .before .before .before .before .before .before .before .before .before .before .before .before .before .before .before .before .before .before .read-header .ensures) _ _ _ _ _ _ (c .before .before .before .before .before .before .before .before .before .before .before .before .before .before .before .before .before .before .before .if1 .taken) (c .before .before .before .before .before .before .before .before .before .before .before .before .before .before .before .before .before .fill-homes .ensures) (c .before .before .before .before .before .before .before .before .before .before .before .before .before .fill-starts .ensures) (c .before .before .before .before .before .before .before .before .before .fill-codes .ensures) (c .before .before .plan-names .ensures .0) (c .before .before .plan-names .ensures .1))
-    (λ c. search (needs, plans-no)))
+    (λ c. (plans-yes _ _ _ _ _ _ _ _ _ (c .before .before .before .before .before .before .before .before .before .before .before .before .before .before .before .before .before .before .before .before .before .before .first-code .ensures) (c .before .before .before .before .before .before .before .before .before .before .before .before .before .before .before .before .before .before .before .before .before .before .before .read-header .ensures) _ _ _ _ _ _ _ _ (c .before .before .before .before .before .before .before .before .before .before .before .before .before .before .before .before .before .before .before .before .before .if1 .taken) (c .before .before .before .before .before .before .before .before .before .before .before .before .before .before .before .before .pages-fit .ensures) (c .before .before .before .before .before .before .before .before .before .before .before .before .before .before .before .if2 .taken) (c .before .before .before .before .before .before .before .before .before .before .before .before .before .before .before .before .before .before .before .fill-starts .ensures .1) (c .before .before .before .before .before .before .before .before .before .before .before .before .before .fill-homes .ensures) (c .before .before .before .before .before .before .before .before .before .before .before .before .before .before .before .before .before .before .before .fill-starts .ensures .0) (c .before .before .before .before .before .before .before .before .before .fill-codes .ensures) (c .before .before .plan-names .ensures .0), λ _. c .before .before .plan-names .ensures .1))
+    (λ c. search needs)
+    (λ c. (search (needs, plans-large), λ e. e))
+    (λ c. (search (needs, plans-no), λ e. e)))

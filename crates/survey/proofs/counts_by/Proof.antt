@@ -15,4 +15,6 @@ counts-by-spec =
     (λ c. search (needs, counts-are))
     (λ c. search (needs, counts-are))
     (λ c. search (needs, counts-are))
+    (λ c. search (needs, counts-are))
+    (λ c. search (needs, counts-are))
     (λ c. search (needs, counts-are)))

@@ -21,6 +21,4 @@ records-code-spec =
     (λ c. search (needs, chain) depth 14 fits 6000)
     (λ c. search (needs, chain) depth 14 fits 6000)
     (λ c. search (needs, chain) depth 14 fits 6000)
-    (λ c. search (needs, chain) depth 14 fits 6000)
-    (λ c. search (needs, chain) depth 14 fits 6000)
     (λ c. search (needs, chain) depth 14 fits 6000))

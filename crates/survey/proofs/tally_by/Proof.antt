@@ -1,5 +1,5 @@
 use borrow.Author.Needs.{needs}
-use Rattle.survey.proofs.Laws.{tally-fits}
+use Rattle.survey.proofs.Laws.{tally-fits, tally-adds}
 use Rattle.survey.proofs.tally_by.Statement.{statement}
 use Rattle.survey.proofs.tally_by.Tie as tie
 
@@ -11,4 +11,4 @@ tally-by-spec =
     (λ c. search (needs, tally-fits))
     (λ c. search (needs, tally-fits))
     (λ c. search (needs, tally-fits))
-    (λ c. search (needs, tally-fits)))
+    (λ c. (search (needs, tally-fits), (search (needs, tally-adds), search needs))))

@@ -21,4 +21,5 @@ put-symbol-spec =
     (λ c. search needs)
     (λ c. search needs)
     (λ c. search needs)
+    (λ c. search needs)
     (λ c. search (needs, symbol-put)))

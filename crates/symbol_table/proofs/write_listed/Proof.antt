@@ -32,5 +32,4 @@ write-listed-spec =
     (λ c. search (needs, symbols-loop))
     (λ c. search (needs, symbols-loop))
     (λ c. search (needs, symbols-loop))
-    (λ c. search (needs, symbols-loop))
     (λ c. search (needs, symbols-loop)))

@@ -32,5 +32,4 @@ listed-total-spec =
     (λ c. search (needs, total-loop))
     (λ c. search (needs, total-loop))
     (λ c. search (needs, total-loop))
-    (λ c. search (needs, total-loop))
     (λ c. search (needs, total-loop)))

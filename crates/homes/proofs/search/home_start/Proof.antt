@@ -14,4 +14,5 @@ home-start-spec =
     (λ c. search needs)
     (λ c. search (needs, home-ways))
     (λ c. search (needs, home-ways))
+    (λ c. search (needs, home-ways))
     (λ c. search (needs, home-ways)))

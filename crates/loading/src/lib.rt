@@ -1,0 +1,69 @@
+// Plan and writing in one: load, with the array for what the symbols come to lent by the caller.
+mod answer;
+
+pub use answer::Load;
+use arch::VA;
+use plan::Lengths;
+use plan::Plan;
+ghost use mathlib.Core.Path.{_≡_};
+ghost use lib.ListN.{replicate};
+ghost use Rattle.object.specs.Format.{headerOf};
+ghost use Rattle.survey.specs.Surveying.{codeRoom};
+ghost use Rattle.storage.specs.Storage.{storage};
+ghost use Rattle.loading.specs.Load.{Loads};
+
+// Everything that survey counts, or a refusal and no byte has changed; `codes` is the caller's, and what is written is told where it held zeros.
+pub fn load_with(
+    f: &[u8],
+    base: VA,
+    codes: &mut [u16],
+    image: &mut [u8],
+    marks: &mut [u8],
+    sections: &mut [u8],
+    symbols: &mut [u8],
+    externs: &mut [u8],
+    fixups: &mut [u8],
+    skips: &mut [u8],
+) -> Load
+    ensures { λ r.
+        ⌜ (now (codes .entry) ≡ replicate (codeRoom (headerOf (now (f .entry)))) 0
+        → Loads (now (f .entry)) (base .0)
+        (storage (now (image .entry)) (now (marks .entry)) (now (sections .entry)) (now (symbols .entry)) (now (externs .entry)) (now (fixups .entry)) (now (skips .entry)))
+        (storage (now (image .exit)) (now (marks .exit)) (now (sections .exit)) (now (symbols .exit)) (now (externs .exit)) (now (fixups .exit)) (now (skips .exit)))
+        r) ⌝ }
+{
+    let l = Lengths {
+        image: image.len(),
+        marks: marks.len(),
+        sections: sections.len(),
+        symbols: symbols.len(),
+        externs: externs.len(),
+        fixups: fixups.len(),
+        skips: skips.len(),
+    };
+    let mut homes = [0u32; limits::MAX_SECTIONS];
+    let mut starts = [0u32; limits::MAX_SECTIONS];
+    let mut slots = [0u32; limits::EXTERN_ROOM];
+    match plan::plan_file(f, base, l, &mut homes, &mut starts, codes, &mut slots) {
+        Plan::Refused(n) => Load::Refused(n),
+        Plan::Ready(c, n) => {
+            storage::write_all(
+                f,
+                base,
+                &homes,
+                &starts,
+                codes,
+                &slots,
+                n,
+                image,
+                marks,
+                sections,
+                symbols,
+                externs,
+                fixups,
+                skips,
+            );
+            Load::Loaded(c)
+        }
+    }
+}

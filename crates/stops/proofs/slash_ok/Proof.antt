@@ -1,0 +1,14 @@
+use borrow.Author.Needs.{needs}
+use Rattle.stops.proofs.Laws.{name-tests}
+use Rattle.stops.proofs.slash_ok.Statement.{statement}
+use Rattle.stops.proofs.slash_ok.Tie as tie
+
+pub slash-ok-spec : {M : Type 1} → statement M
+slash-ok-spec =
+    tie.close
+    (tie.spec
+    (λ c. search (needs, name-tests))
+    (λ c. search (needs, name-tests))
+    (λ c. search (needs, name-tests))
+    (λ c. search (needs, name-tests))
+    (λ c. search (needs, name-tests)))
