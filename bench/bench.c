@@ -1,5 +1,5 @@
-/* Times survey, load and a full patch of each object beside a loader in plain C (plain.c), which must leave the same bytes, and beside the copying of as many
- * bytes as file and image have.
+/* Times survey, load and a full patch of each object beside a loader in plain C (plain.c), which must leave the same bytes and find the same routines, and
+ * beside the copying of as many bytes as file and image have.
  *
  *   bench N FILE...
  *
@@ -156,6 +156,30 @@ static void compare(const struct object *o)
         die(o->path, "plain C leaves other lists");
 }
 
+static void compare_routine(const struct object *o, uint64_t address)
+{
+    const struct nelgrauf_counts *c = &o->counts;
+    struct nelgrauf_nearest x = { 0, 0 }, y = { 0, 0 };
+    uint64_t code = nelgrauf_routine(o->ours.sections, c->sections * sizeof *o->ours.sections, o->ours.symbols, c->symbols * sizeof *o->ours.symbols,
+                                     address, &x, sizeof x);
+    if (code != plain_routine(&o->plain, c, address, &y) || x.symbol != y.symbol || x.distance != y.distance)
+        die(o->path, "plain C finds another routine");
+}
+
+/* At the bounds of every section, and at and beside up to 256 of the symbols. */
+static void compare_routines(const struct object *o)
+{
+    for (uint64_t i = 0; i < o->counts.sections; i++) {
+        compare_routine(o, o->ours.sections[i].start - 1);
+        compare_routine(o, o->ours.sections[i].start);
+        compare_routine(o, o->ours.sections[i].end - 1);
+        compare_routine(o, o->ours.sections[i].end);
+    }
+    for (uint64_t i = 0; i < o->counts.symbols; i += o->counts.symbols / 256 + 1)
+        for (uint64_t near = 0; near < 3; near++)
+            compare_routine(o, o->ours.symbols[i].address + near - 1);
+}
+
 static uint64_t timed(enum job job, struct object *o, uint64_t best[JOBS])
 {
     uint64_t from = now(), code = run(job, o), took = now() - from;
@@ -195,6 +219,7 @@ static void time_object(const char *path, uint64_t rounds, uint64_t sum[JOBS])
     for (uint64_t i = 1; i < rounds && now() - start < 2 * SECOND; i++)
         time_jobs(SURVEY, &o, best);
     compare(&o);
+    compare_routines(&o);
     printf("%zu bytes %" PRIu64 " pages %" PRIu64 " relocations:", o.size, c->pages, c->relocations);
     print_times(best);
     printf("  %s\n", path);

@@ -503,3 +503,20 @@ void plain_free(struct plain *p)
     free(p->externs);
     free(p);
 }
+
+uint64_t plain_routine(const struct tables *t, const struct nelgrauf_counts *counts, uint64_t address, struct nelgrauf_nearest *nearest)
+{
+    uint64_t home = 0, code = NELGRAUF_NO_ROUTINE;
+    while (home < counts->sections && (address < t->sections[home].start || t->sections[home].end <= address))
+        home++;
+    if (home == counts->sections)
+        return NELGRAUF_NO_SECTION;
+    for (uint64_t i = 0; i < counts->symbols; i++) {
+        const struct nelgrauf_symbol *s = &t->symbols[i];
+        if (s->home == home && s->address <= address && (code != 0 || address - s->address <= nearest->distance)) {
+            *nearest = (struct nelgrauf_nearest){ i, address - s->address };
+            code = 0;
+        }
+    }
+    return code;
+}

@@ -23,4 +23,7 @@ void plain_load(const struct plain *p, uint64_t base, const struct tables *t);
 void plain_patch(uint64_t base, uint8_t *image, const struct nelgrauf_fixup *fixups, uint64_t count);
 void plain_free(struct plain *p);
 
+/* The nearest symbol of the section that holds the address, or a refusal. */
+uint64_t plain_routine(const struct tables *t, const struct nelgrauf_counts *counts, uint64_t address, struct nelgrauf_nearest *nearest);
+
 #endif

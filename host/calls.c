@@ -1,4 +1,4 @@
-/* The four functions called from C on the small object of the tests: every answer and every lent byte, on refusals too. */
+/* The functions called from C on the small object of the tests: every answer and every lent byte, on refusals too. */
 #include "nelgrauf.h"
 
 #include <stdbool.h>
@@ -150,6 +150,33 @@ static void reads(void)
     EXPECT(memcmp(out + 8, kept + 8, 8) == 0);
 }
 
+static uint64_t routine(size_t sections_bytes, size_t symbols_bytes, uint64_t address, struct nelgrauf_nearest *n, size_t nearest_bytes)
+{
+    return nelgrauf_routine(s.sections, sections_bytes, s.symbols, symbols_bytes, address, n, nearest_bytes);
+}
+
+/* .text is 16 bytes with _topup at their start; UNDEF's page has no symbol. */
+static void routines(void)
+{
+    const size_t both = 2 * sizeof s.sections[0], one = sizeof s.symbols[0];
+    struct nelgrauf_nearest n[2] = { { 77, 88 }, { 66, 55 } };
+    EXPECT(routine(both, one, BASE, n, 15) == NELGRAUF_STORAGE);
+    EXPECT(routine(0, 0, UINT64_MAX, n, 15) == NELGRAUF_STORAGE);
+    EXPECT(routine(both, one, BASE - 1, n, sizeof n) == NELGRAUF_NO_SECTION);
+    EXPECT(routine(both, one, BASE + 16, n, sizeof n) == NELGRAUF_NO_SECTION);
+    EXPECT(routine(both, one, BASE + 0x2000, n, sizeof n) == NELGRAUF_NO_SECTION);
+    EXPECT(routine(both, one, UINT64_MAX, n, sizeof n) == NELGRAUF_NO_SECTION);
+    EXPECT(routine(both, one, BASE + 0x1000, n, sizeof n) == NELGRAUF_NO_ROUTINE);
+    /* what is left behind the last whole record is none */
+    EXPECT(routine(both - 1, one, BASE + 0x1000, n, sizeof n) == NELGRAUF_NO_SECTION);
+    EXPECT(routine(both, one - 1, BASE, n, sizeof n) == NELGRAUF_NO_ROUTINE);
+    EXPECT(routine(0, one, BASE, n, sizeof n) == NELGRAUF_NO_SECTION);
+    EXPECT(n[0].symbol == 77 && n[0].distance == 88);
+    EXPECT(routine(both, one, BASE + 15, n, 16) == NELGRAUF_DONE && n[0].symbol == 0 && n[0].distance == 15);
+    EXPECT(routine(both, one, BASE, n, sizeof n) == NELGRAUF_DONE && n[0].symbol == 0 && n[0].distance == 0);
+    EXPECT(n[1].symbol == 66 && n[1].distance == 55);
+}
+
 int main(void)
 {
     memset(&before, 0xa5, sizeof before);
@@ -158,5 +185,6 @@ int main(void)
     loads();
     patches();
     reads();
+    routines();
     return failed != 0;
 }

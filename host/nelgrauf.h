@@ -1,4 +1,4 @@
-/* Nelgrauf from C: survey, load, patch and read of COFF objects. docs/HOST.md says what each record holds.
+/* Nelgrauf from C: survey, load, patch and read of COFF objects, and the routine of an address. docs/HOST.md says what each record holds.
  *
  * Every function answers 0, or the number of a refusal (enum nelgrauf_refusal), and then nothing lent has changed.
  * A lent buffer is a pointer and its length in bytes. The pointer is never null, not even for length 0, and no buffer that a call
@@ -53,7 +53,9 @@ enum nelgrauf_refusal {
     NELGRAUF_BASE = 12,           /* the base is no page multiple, or above NELGRAUF_MAX_BASE */
     NELGRAUF_STORAGE = 13,        /* a lent buffer is too short, or the image is not whole pages */
     NELGRAUF_POSITION = 14,       /* the position is above the count of the fixups */
-    NELGRAUF_NOT_MAPPED = 15      /* a byte that is not mapped, or a fixup of neither 32 nor 64 bits */
+    NELGRAUF_NOT_MAPPED = 15,     /* a byte that is not mapped, or a fixup of neither 32 nor 64 bits */
+    NELGRAUF_NO_SECTION = 19,     /* no section holds the address */
+    NELGRAUF_NO_ROUTINE = 21      /* no listed symbol of its section lies at the address or below */
 };
 
 /* A symbol's kind. */
@@ -145,6 +147,12 @@ struct nelgrauf_progress {
     uint64_t done;     /* 1 if that is the list's end, else 0 */
 };
 
+/* Which routine an address is in. */
+struct nelgrauf_nearest {
+    uint64_t symbol;   /* record of the symbol table, from 0 */
+    uint64_t distance; /* how far behind its address the asked one lies */
+};
+
 /* docs/HOST.md: sizes and offsets. */
 #define NELGRAUF_SIZE(record, bytes) NELGRAUF_ASSERT(sizeof(struct record) == (bytes), #record)
 #define NELGRAUF_AT(record, field, at) NELGRAUF_ASSERT(offsetof(struct record, field) == (at), #record "." #field)
@@ -191,6 +199,9 @@ NELGRAUF_AT(nelgrauf_skip, reason, 16);
 NELGRAUF_SIZE(nelgrauf_progress, 16);
 NELGRAUF_AT(nelgrauf_progress, position, 0);
 NELGRAUF_AT(nelgrauf_progress, done, 8);
+NELGRAUF_SIZE(nelgrauf_nearest, 16);
+NELGRAUF_AT(nelgrauf_nearest, symbol, 0);
+NELGRAUF_AT(nelgrauf_nearest, distance, 8);
 
 #undef NELGRAUF_SIZE
 #undef NELGRAUF_AT
@@ -222,6 +233,12 @@ uint64_t nelgrauf_patch(uint64_t base, void *NELGRAUF_RESTRICT image, size_t ima
  * Refusals: 13, 15. */
 uint64_t nelgrauf_read(uint64_t base, const void *image, size_t image_bytes, const void *marks, size_t marks_bytes,
                        uint64_t address, void *NELGRAUF_RESTRICT out, size_t out_bytes);
+
+/* Which routine an address is in: of the symbols whose home is the section that holds it, the one with the greatest address not above it, and of
+ * several there the last; struct nelgrauf_nearest into `nearest`. Any address may be asked. The tables are the counted parts as load wrote them; what
+ * is left behind the last whole record of one is none. Refusals, in this order: 13 if `nearest` has under 16 bytes; 19; 21. */
+uint64_t nelgrauf_routine(const void *sections, size_t sections_bytes, const void *symbols, size_t symbols_bytes,
+                          uint64_t address, void *NELGRAUF_RESTRICT nearest, size_t nearest_bytes);
 
 #ifdef __cplusplus
 }

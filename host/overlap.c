@@ -35,3 +35,10 @@ void read_out(char *x, char *a, char *b)
     nelgrauf_read(0, a, 1, x, 1, 0, x, 1); /* overlap */
     nelgrauf_read(0, x, 1, x, 1, 0, b, 1);
 }
+
+void routine(char *x, char *a, char *b)
+{
+    nelgrauf_routine(x, 1, a, 1, 0, x, 1); /* overlap */
+    nelgrauf_routine(a, 1, x, 1, 0, x, 1); /* overlap */
+    nelgrauf_routine(x, 1, x, 1, 0, b, 1);
+}

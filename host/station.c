@@ -1,5 +1,5 @@
-/* The station's host: surveys, loads, patches and reads back one object file, and prints what was loaded. `station --help` says how it is
- * called; docs/HOST.md has its lines and its exit status. */
+/* The station's host: surveys, loads, patches and reads back one object file, and prints what was loaded, or which routines addresses are in.
+ * `station --help` says how it is called; docs/HOST.md has its lines and its exit status. */
 #define _POSIX_C_SOURCE 200809L
 #include "nelgrauf.h"
 
@@ -16,7 +16,10 @@ enum { DONE = 0, REFUSED = 1, BAD_USE = 2, NOT_READ_BACK = 3, STOPPED = 4 };
 
 struct options {
     bool stop_on_skips;
+    bool patches; /* an option says how to patch */
     uint64_t portion;
+    uint64_t *addresses; /* of --where, in their order */
+    size_t addresses_count;
     uint64_t base;
     const char *path;
 };
@@ -53,10 +56,12 @@ static void die(const char *form, ...)
 static void print_use(FILE *to)
 {
     fputs("use: station [--stop-on-skips] [--portion N] [--] BASE FILE\n"
+          "     station --where ADDRESS [--where ADDRESS ..] [--] BASE FILE\n"
           "  BASE  the image's first address, decimal or 0x.. hexadecimal\n"
           "  FILE  a COFF object; - is standard input\n"
           "  --portion N, --portion=N  apply N fixups a call (default: all in one)\n"
           "  --stop-on-skips           do not patch if a relocation was skipped\n"
+          "  --where A, --where=A      print which routine the address is in, and patch nothing\n"
           "  --help                    print this, and do nothing else\n"
           "  --                        no option comes behind this\n"
           "exit status: 0 done, 1 refused, 2 could not be run or printed, 3 not read back, 4 stopped on skips\n", to);
@@ -68,6 +73,15 @@ static int printed(int status)
     if (fflush(stdout) != 0 || ferror(stdout))
         die("standard output: %s", strerror(errno));
     return status;
+}
+
+/* `count` cleared records; never a null pointer. */
+static void *lend(uint64_t count, size_t size)
+{
+    void *at = count <= SIZE_MAX ? calloc(count == 0 ? 1 : (size_t)count, size) : NULL;
+    if (at == NULL)
+        die("no memory for %" PRIu64 " records of %zu bytes", count, size);
+    return at;
 }
 
 /* ---- arguments */
@@ -85,14 +99,21 @@ static bool number_of(const char *word, uint64_t *value)
     return errno == 0;
 }
 
-static uint64_t portion_of(const char *word)
+static void set_portion(struct options *o, const char *word)
 {
-    uint64_t portion = 0;
     if (word == NULL)
         die("--portion needs a number");
-    if (!number_of(word, &portion) || portion == 0)
+    if (!number_of(word, &o->portion) || o->portion == 0)
         die("--portion needs a number from 1 on, not '%s'", word);
-    return portion;
+    o->patches = true;
+}
+
+static void add_address(struct options *o, const char *word)
+{
+    if (word == NULL)
+        die("--where needs an address");
+    if (!number_of(word, &o->addresses[o->addresses_count++]))
+        die("--where needs an address, not '%s'", word);
 }
 
 /* Takes the option at *i, and its number if that is a word of its own; false where no option is left. */
@@ -109,11 +130,15 @@ static bool next_option(struct options *o, char **words, int *i)
         exit(printed(DONE));
     }
     if (strcmp(word, "--stop-on-skips") == 0)
-        o->stop_on_skips = true;
+        o->stop_on_skips = o->patches = true;
     else if (strcmp(word, "--portion") == 0)
-        o->portion = portion_of(words[(*i)++]);
+        set_portion(o, words[(*i)++]);
     else if (strncmp(word, "--portion=", 10) == 0)
-        o->portion = portion_of(word + 10);
+        set_portion(o, word + 10);
+    else if (strcmp(word, "--where") == 0)
+        add_address(o, words[(*i)++]);
+    else if (strncmp(word, "--where=", 8) == 0)
+        add_address(o, word + 8);
     else
         die("no such option: %s", word);
     return true;
@@ -121,7 +146,7 @@ static bool next_option(struct options *o, char **words, int *i)
 
 static struct options options_of(int count, char **words)
 {
-    struct options o = { .stop_on_skips = false, .portion = UINT64_MAX };
+    struct options o = { .stop_on_skips = false, .portion = UINT64_MAX, .addresses = lend((uint64_t)count, sizeof *o.addresses) };
     int i = count == 0 ? 0 : 1;
     while (next_option(&o, words, &i))
         continue;
@@ -129,6 +154,8 @@ static struct options options_of(int count, char **words)
         print_use(stderr);
         exit(BAD_USE);
     }
+    if (o.addresses_count != 0 && o.patches)
+        die("--where patches nothing, and goes with neither --portion nor --stop-on-skips");
     if (!number_of(words[i], &o.base))
         die("the base is no number: '%s'", words[i]);
     o.path = words[i + 1];
@@ -136,15 +163,6 @@ static struct options options_of(int count, char **words)
 }
 
 /* ---- storage */
-
-/* `count` cleared records; never a null pointer. */
-static void *lend(uint64_t count, size_t size)
-{
-    void *at = count <= SIZE_MAX ? calloc(count == 0 ? 1 : (size_t)count, size) : NULL;
-    if (at == NULL)
-        die("no memory for %" PRIu64 " records of %zu bytes", count, size);
-    return at;
-}
 
 /* The file, of which no more is read than shows that it is too long. */
 static struct bytes file_of(const char *path)
@@ -178,7 +196,7 @@ static void give_back(struct module *m)
     free(m->skips);
 }
 
-/* ---- the four operations; each answers 0 or a refusal's number */
+/* ---- the operations; each answers 0 or a refusal's number */
 
 /* Lends what survey counts, and loads. */
 static uint64_t load(struct module *m, uint64_t base)
@@ -223,6 +241,12 @@ static uint64_t read_back(const struct module *m, uint64_t base, bool *same)
     return code;
 }
 
+static uint64_t routine(const struct module *m, uint64_t address, struct nelgrauf_nearest *nearest)
+{
+    return nelgrauf_routine(m->sections, m->counts.sections * sizeof *m->sections, m->symbols, m->counts.symbols * sizeof *m->symbols,
+                            address, nearest, sizeof *nearest);
+}
+
 /* ---- what is printed */
 
 static const char *refusal_words(uint64_t code)
@@ -243,6 +267,8 @@ static const char *refusal_words(uint64_t code)
         [NELGRAUF_STORAGE] = "a lent buffer is too short",
         [NELGRAUF_POSITION] = "the position is above the count of fixups",
         [NELGRAUF_NOT_MAPPED] = "a byte that is not mapped, or a fixup of neither 32 nor 64 bits",
+        [NELGRAUF_NO_SECTION] = "no section holds the address",
+        [NELGRAUF_NO_ROUTINE] = "no symbol of the section lies at the address or below",
     };
     return code < sizeof words / sizeof *words && words[code] != NULL ? words[code] : "no such refusal";
 }
@@ -346,6 +372,24 @@ static int stopped_on_skips(const struct module *m, uint64_t base)
     return STOPPED;
 }
 
+/* A line for each address of --where; the status says whether one was refused. */
+static int print_routines(const struct module *m, const struct options *o)
+{
+    int status = DONE;
+    for (size_t i = 0; i < o->addresses_count; i++) {
+        struct nelgrauf_nearest nearest;
+        uint64_t code = routine(m, o->addresses[i], &nearest);
+        if (code != 0) {
+            status = refused(code);
+            continue;
+        }
+        const struct nelgrauf_symbol *s = &m->symbols[nearest.symbol];
+        fwrite(m->file.at + s->name_start, 1, (size_t)s->name_length, stdout);
+        printf("+0x%" PRIx64 "\n", nearest.distance);
+    }
+    return status;
+}
+
 /* ---- the job */
 
 static int run(struct module *m, const struct options *o)
@@ -353,6 +397,8 @@ static int run(struct module *m, const struct options *o)
     uint64_t code = load(m, o->base);
     if (code != 0)
         return refused(code);
+    if (o->addresses_count != 0)
+        return print_routines(m, o);
     if (o->stop_on_skips && m->counts.skips != 0)
         return stopped_on_skips(m, o->base);
     bool same = false;
@@ -375,5 +421,6 @@ int main(int count, char **words)
     struct module m = { .file = file_of(o.path) };
     int status = run(&m, &o);
     give_back(&m);
+    free(o.addresses);
     return printed(status);
 }

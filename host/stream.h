@@ -3,7 +3,8 @@
  *   case LABEL BASE LENGTH [OTHERBASE]
  *   LENGTH bytes and a newline, then a line for each action, up to the next case
  *
- * The actions that matter here are `lines`, `at BASE` (the object is loaded again there), `patch NUMBER POSITION` and `read ADDRESS LENGTH`.
+ * The actions that matter here are `lines`, `at BASE` (the object is loaded again there), `patch NUMBER POSITION`, `read ADDRESS LENGTH` and, before
+ * any `at`, `routine ADDRESS`.
  * Storage and numbers are those of station.c, which is included before. */
 #ifndef STREAM_H
 #define STREAM_H
@@ -22,6 +23,8 @@ struct one_case {
     size_t bases_count;
     struct call calls[256];
     size_t calls_count;
+    uint64_t routines[64]; /* the addresses whose routines are asked for */
+    size_t routines_count;
     uint64_t loaded_at; /* base of the last load */
     bool has_lines;     /* `lines` is among the actions */
 };
@@ -64,6 +67,13 @@ static void add_call(struct one_case *c, struct call call)
     c->calls[c->calls_count++] = call;
 }
 
+static void add_routine(struct one_case *c, uint64_t address)
+{
+    if (c->routines_count == sizeof c->routines / sizeof *c->routines)
+        die("too many routines in %s", c->label);
+    c->routines[c->routines_count++] = address;
+}
+
 static void read_head(struct one_case *c, const char *line)
 {
     char base[32], length[32], other[32];
@@ -97,6 +107,8 @@ static void read_action(struct one_case *c, const char *line)
         add_call(c, (struct call){ false, number_in(x, line), number_in(y, line) });
     } else if (words == 3 && strcmp(word, "read") == 0) {
         add_call(c, (struct call){ true, number_in(x, line) - c->loaded_at, number_in(y, line) });
+    } else if (words == 2 && strcmp(word, "routine") == 0) {
+        add_routine(c, number_in(x, line));
     }
 }
 

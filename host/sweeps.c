@@ -1,6 +1,6 @@
-/* Sweeps over the objects of test_objects: each is loaded into storage that just has room, has more, or lacks a byte, at good and bad bases, and
- * is then patched and read by lists of calls at two bases. Every answer and every lent byte is held against what the file, the tables and the
- * calls make of it, found here a second way.
+/* Sweeps over the objects of test_objects: each is loaded into storage that just has room, has more, or lacks a byte, at good and bad bases, is
+ * asked for the routines of addresses, and is then patched and read by lists of calls at two bases. Every answer and every lent byte is held against what
+ * the file, the tables and the calls make of it, found here a second way.
  *
  * Sanitizers do not see into the library. So every buffer ends at a page that must not be touched, and a call that goes a byte too far is stopped. */
 #define _DEFAULT_SOURCE /* for MAP_ANONYMOUS */
@@ -310,6 +310,11 @@ static const struct nelgrauf_section *sections_of(const struct place *p)
     return (const void *)p->s->of[SECTIONS].at;
 }
 
+static const struct nelgrauf_symbol *symbols_of(const struct place *p)
+{
+    return (const void *)p->s->of[SYMBOLS].at;
+}
+
 static const struct nelgrauf_extern *externs_of(const struct place *p)
 {
     return (const void *)p->s->of[EXTERNS].at;
@@ -455,6 +460,69 @@ static bool read_at(const struct place *p, uint64_t address, uint64_t length)
     return expect(code == want_code, "read 0x%" PRIx64 " %zu at 0x%" PRIx64 " answers %" PRIu64 ", not %" PRIu64, address, out_room.size,
                   p->base, code, want_code)
         && expect(right, "read 0x%" PRIx64 " %zu at 0x%" PRIx64 " leaves other bytes", address, out_room.size, p->base);
+}
+
+/* ---- routines */
+
+static struct buffer nearest_room;
+
+/* From the last symbol to the first: one that lies higher takes the place of what was found. */
+static uint64_t routine_of(const struct place *p, uint64_t sections, uint64_t symbols, uint64_t address, struct nelgrauf_nearest *found)
+{
+    const struct nelgrauf_section *s = sections_of(p);
+    const struct nelgrauf_symbol *y = symbols_of(p), *best = NULL;
+    uint64_t home = 0;
+    while (home < sections && (address < s[home].start || s[home].end <= address))
+        home++;
+    if (home == sections)
+        return NELGRAUF_NO_SECTION;
+    for (uint64_t i = symbols; i-- > 0;)
+        if (y[i].home == home && y[i].address <= address && (best == NULL || best->address < y[i].address))
+            best = &y[i];
+    if (best == NULL)
+        return NELGRAUF_NO_ROUTINE;
+    *found = (struct nelgrauf_nearest){ (uint64_t)(best - y), address - best->address };
+    return NELGRAUF_DONE;
+}
+
+/* With as many bytes of the tables lent, which may end inside a record, and `room` for the result. */
+static bool routine_in(const struct place *p, size_t sections, size_t symbols, size_t room, uint64_t address)
+{
+    struct nelgrauf_nearest want;
+    memset(&want, 0xA5, sizeof want);
+    uint64_t want_code = NELGRAUF_STORAGE;
+    if (room == sizeof want)
+        want_code = routine_of(p, sections / kinds[SECTIONS].unit, symbols / kinds[SYMBOLS].unit, address, &want);
+    cut(&nearest_room, room);
+    paint(&nearest_room, 0xA5);
+    calls++;
+    uint64_t code = nelgrauf_routine(sections_of(p), sections, symbols_of(p), symbols, address, nearest_room.at, room);
+    return expect(code == want_code, "routine 0x%" PRIx64 " at 0x%" PRIx64 " answers %" PRIu64 ", not %" PRIu64, address, p->base, code, want_code)
+        && expect(memcmp(nearest_room.at, &want, room) == 0, "routine 0x%" PRIx64 " at 0x%" PRIx64 " gives another symbol", address, p->base);
+}
+
+static bool routine_at(const struct place *p, uint64_t address)
+{
+    size_t sections = p->s->of[SECTIONS].size, symbols = p->s->of[SYMBOLS].size;
+    return routine_in(p, sections, symbols, sizeof(struct nelgrauf_nearest), address)
+        && routine_in(p, sections, symbols, sizeof(struct nelgrauf_nearest) - 1, address)
+        && routine_in(p, sections - 1, symbols, sizeof(struct nelgrauf_nearest), address)
+        && (symbols == 0 || routine_in(p, sections, symbols - 1, sizeof(struct nelgrauf_nearest), address));
+}
+
+/* At every bound of a section, at up to 64 of the symbols, beside them, and at both ends of 64 bits. */
+static bool routines_at(const struct place *p, const struct nelgrauf_counts *c)
+{
+    bool right = routine_at(p, 0) && routine_at(p, UINT64_MAX);
+    for (uint64_t i = 0; right && i < c->sections; i++) {
+        const struct nelgrauf_section *s = &sections_of(p)[i];
+        right = routine_at(p, s->start - 1) && routine_at(p, s->start) && routine_at(p, s->end - 1) && routine_at(p, s->end);
+    }
+    for (uint64_t i = 0; right && i < c->symbols; i += c->symbols / 64 + 1) {
+        uint64_t address = symbols_of(p)[i].address;
+        right = routine_at(p, address - 1) && routine_at(p, address) && routine_at(p, address + 1);
+    }
+    return right;
 }
 
 /* ---- two bases */
@@ -628,6 +696,8 @@ static bool lists_at(const struct one_case *t, const struct nelgrauf_counts *c, 
 {
     if (!take_place(&places[0], c, base) || !take_place(&places[1], c, other) || !tables_move(places, c))
         return false;
+    if (!routines_at(&places[0], c) || !routines_at(&places[1], c))
+        return false;
     cover(places, c);
     bool right = run_list(places, c, t->calls, t->calls_count) && run_portions(places, c) && run_reads(places, c);
     for (int i = 0; right && i < LISTS; i++)
@@ -688,6 +758,7 @@ static void prepare(void)
     file = guarded(MOST_FILE);
     counts_room = guarded(3 * sizeof(struct nelgrauf_counts));
     progress_room = guarded(sizeof(struct nelgrauf_progress));
+    nearest_room = guarded(sizeof(struct nelgrauf_nearest));
     out_room = guarded(MOST_IMAGE + 1);
     first = new_storage();
     second = new_storage();

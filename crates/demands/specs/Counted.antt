@@ -8,6 +8,8 @@ use Rattle.object.specs.Section.{relocationCount}
 use Rattle.layout.specs.Layout.{mappedPages, undefStart, startsTo}
 use Rattle.externs.specs.Externs.{externs}
 use Rattle.survey.specs.Survey.{outcomes}
+use Rattle.homes.specs.Home.{sectionHome, homeRecords}
+use Rattle.symbol_table.specs.Symbols.{symbolTable}
 use Rattle.tables.specs.Sections.{sectionTable}
 use Rattle.tables.specs.Externs.{externTable}
 use Rattle.lists.specs.Relocations.{fixTable}
@@ -33,6 +35,10 @@ fixTableOf f base = fixTable base (outcomes f (headerOf f)) (relocationCount f (
 -- the section table at the base
 abbrev pub sectionsOf : List ℕ → ℕ → List ℕ
 sectionsOf f base = sectionTable f (headerOf f) base (startsTo f (headerOf f) (headerOf f .sections)) (undefStart f (headerOf f))
+
+-- the symbol table at the base
+abbrev pub symbolsOf : List ℕ → ℕ → List ℕ
+symbolsOf f base = symbolTable f (headerOf f) base (sectionHome f (headerOf f)) (homeRecords f (headerOf f) (headerOf f .sections))
 
 -- and the table of extern names
 abbrev pub externsOf : List ℕ → ℕ → List ℕ

@@ -100,9 +100,9 @@ pub record Demand3 (f : List ℕ) (b₁ b₂ : ℕ) (t₁ t₂ : Lent) (calls : 
   pub both : AtBoth f b₁ b₂ t₁ t₂ calls
 
 -- ---- its only hypotheses: the file is accepted, the bases are allowed
-low : (base : ℕ) → baseOk base ≡ true → base ≤ MAX-BASE
+pub base-low : (base : ℕ) → baseOk base ≡ true → base ≤ MAX-BASE
 unfolding baseOk
-low base e = leb-true base MAX-BASE (and-right (eqb (base % PAGE-SIZE) 0) (leb base MAX-BASE) e)
+base-low base e = leb-true base MAX-BASE (and-right (eqb (base % PAGE-SIZE) 0) (leb base MAX-BASE) e)
 
 module _ (f : List ℕ) (c : Counts) (accepted : surveyOf f ≡ Accepted c) where
   few : pagesOf f ≤ MAX-PAGES
@@ -121,7 +121,7 @@ module _ (f : List ℕ) (c : Counts) (accepted : surveyOf f ≡ Accepted c) wher
 
   module _ (base : ℕ) (ok : baseOk base ≡ true) where
     only : (number position : ℕ) → patchCode (PAGE-SIZE * pagesOf f) (marksOf f) base (fixTableOf f base) number position ≡ plainCode (fixCount (fixTableOf f base)) position
-    only = only-position f base (low base ok) few placed
+    only = only-position f base (base-low base ok) few placed
 
     writes : (calls : List Call) → imageAfter base (lentOf f base) calls ≡ writtenAt base (fixTableOf f base) (imageOf f base) (appliedTo f calls)
     writes calls =
@@ -133,7 +133,7 @@ module _ (f : List ℕ) (c : Counts) (accepted : surveyOf f ≡ Accepted c) wher
         let e = answers-plain base (fixTableOf f base) (marksOf f) (PAGE-SIZE * pagesOf f) only calls (imageOf f base) (image-long base) in
         rw (fixes-counted f base) at e
 
-    by-origin : (d : ℕ) → d < PAGE-SIZE * pagesOf f → (o : Option ℕ) → seen f base (low base ok) few placed (imageOf f base) d o ≡ byteOf f base (originBy f base (base + d) o)
+    by-origin : (d : ℕ) → d < PAGE-SIZE * pagesOf f → (o : Option ℕ) → seen f base (base-low base ok) few placed (imageOf f base) d o ≡ byteOf f base (originBy f base (base + d) o)
     unfolding originBy
     by-origin d l none =
         laid-byte f base (replicate (PAGE-SIZE * pagesOf f) 0) few (names-few f c accepted) (rw length-replicate (omega arith)) d l
@@ -163,27 +163,27 @@ module _ (f : List ℕ) (c : Counts) (accepted : surveyOf f ≡ Accepted c) wher
     at-base : (calls : List Call) → AtBase f base calls
     at-base calls =
         record {
-          ranges-read = λ i l t. range-read f c accepted base (low base ok) i l t;
-          undef-read = undef-is-read f c accepted base (low base ok);
-          slots-read = λ e l. slot-is-read f c accepted base (low base ok) e l;
+          ranges-read = λ i l t. range-read f c accepted base (base-low base ok) i l t;
+          undef-read = undef-is-read f c accepted base (base-low base ok);
+          slots-read = λ e l. slot-is-read f c accepted base (base-low base ok) e l;
           count = fixes-counted f base;
-          places = λ k l. place-back f base (low base ok) few placed k l;
-          widths = λ k l. ap widthOf (bits-back f base (low base ok) few placed k l);
-          values = λ k l. value-back f base (low base ok) few placed k l;
+          places = λ k l. place-back f base (base-low base ok) few placed k l;
+          widths = λ k l. ap widthOf (bits-back f base (base-low base ok) few placed k l);
+          values = λ k l. value-back f base (base-low base ok) few placed k l;
           refused = λ number position. only number position ∙ ap (λ (n : ℕ). plainCode n position) (fixes-counted f base);
           answered = answers-are calls;
           long = ap (length {A = ℕ}) (writes calls) ∙ length-written base (fixTableOf f base) (imageOf f base) (appliedTo f calls) ∙ image-long base;
           bytes = λ d l.
               ap (λ (i : List ℕ). getD i d 0) (writes calls)
-              ∙ written-byte f base (low base ok) few placed (appliedTo f calls) (imageOf f base) d (image-long base) (applied-below (length (fixupsOf f)) calls)
+              ∙ written-byte f base (base-low base ok) few placed (appliedTo f calls) (imageOf f base) d (image-long base) (applied-below (length (fixupsOf f)) calls)
               ∙ by-origin d l (latest f base (base + d) (appliedTo f calls));
           apart = λ i j a x y. apart-at i j a x y;
           behind = λ i a l x. behind-at i a l x;
-          whole = λ k l. rw (width-is k l) (no-bit-lost (fixupAt f k) (exact k l) base (low base ok));
+          whole = λ k l. rw (width-is k l) (no-bit-lost (fixupAt f k) (exact k l) base (base-low base ok));
           slot-whole = λ e l.
               let u = undef-fits f (headerOf f) few in
               let n = names-few f c accepted in
-              let b = low base ok in
+              let b = base-low base ok in
               slot-keeps (slotValue f base e) (omega arith);
         }
 
@@ -197,7 +197,7 @@ module _ (f : List ℕ) (c : Counts) (accepted : surveyOf f ≡ Accepted c) wher
               answers = answers-are b₁ o₁ calls ∙ sym (answers-are b₂ o₂ calls);
               origins = λ d. origin-same f b₁ b₂ d (appliedTo f calls);
               relative = λ k e. relative-stays (fixupAt f k) b₂ b₁ e;
-              others = λ k l e. other-rises (fixupAt f k) (exact k l) b₁ b₂ (low b₁ o₁) (low b₂ o₂) e;
+              others = λ k l e. other-rises (fixupAt f k) (exact k l) b₁ b₂ (base-low b₁ o₁) (base-low b₂ o₂) e;
               slots = λ e. omega arith;
             };
       }

@@ -2,28 +2,35 @@
 use mathlib.Core.Path.{_≡_, refl, sym}
 use mathlib.Core.Bool.{true}
 use mathlib.Core.List.{List}
-use mathlib.Core.Logic.{inr}
+use mathlib.Core.Logic.{inr, ⊎-elim}
 use Prim.Native.Nat.{ℕ, _*_, _<_}
 use native.Mathlib.Omega.{arith}
-use lib.Dec.{leb, eqb}
-use lib.ListN.{length, replicate, length-replicate}
-use borrow.Author.Tests.{le-leb}
-use Rattle.util.specs.Pick.{pick}
+use lib.Dec.{leb, ltb, eqb}
+use lib.ListN.{length, getD, replicate, length-replicate, List·getD-eq-default}
+use borrow.Author.Tests.{le-leb, ltb-true}
+use Rattle.util.specs.Pick.{pick, le-or-lt}
 use Rattle.arch.specs.Page.{PAGE-SIZE}
+use Rattle.arch.specs.Address.{va}
 use Rattle.arch.specs.Machine.{archOf}
-use Rattle.util.specs.Prefix.{listTo}
+use Rattle.util.specs.Prefix.{allTo, countTo, listTo, all-at}
+use Rattle.util.specs.Align.{roundUp}
 use Rattle.util.specs.Fold.{foldRecords, foldSections}
-use Rattle.le.specs.Le.{get, le, part}
+use Rattle.le.specs.Le.{get, le, part, IsBytes}
 use Rattle.object.specs.Format.{headerOf}
 use Rattle.kinds.specs.Types.{type32, typeOf}
-use Rattle.object.specs.Section.{fileStart, fileEnd, extended, relocationRecords, relocationCount, relocationStart}
-use Rattle.kinds.specs.Flags.{loadedBy}
+use Rattle.object.specs.Section.{fileStart, fileEnd, rangeLength, extended, relocationRecords, relocationCount, relocationStart}
+use Rattle.kinds.specs.Flags.{loadedBy, alignOf, permissionsBy}
 use Rattle.object.specs.Symbol.{leftAfter, auxiliariesLeft, primary, isSymbol}
-use Rattle.kinds.specs.Symbol.{isFunction, codeOrData, kindBy, zeroPlace, placeBy}
+use Rattle.kinds.specs.Symbol.{isFunction, codeOrData, kindBy, zeroPlace, placeBy, listedBy}
 use Rattle.names.specs.Bytes.{upToZero, sameBytes}
 use Rattle.names.specs.Name.{leftFrom, longSpan, spanAt}
-use Rattle.homes.specs.Home.{firstIn, isHome, homeStart, sectionHome, byNumber}
-use Rattle.layout.specs.Layout.{startAt}
+use Rattle.homes.specs.Home.{firstIn, isHome, homeStart, homeRecord, sectionHome, byNumber}
+use Rattle.homes.specs.Listed.{ofPlace, offsetFrom, listed}
+use Rattle.layout.specs.Layout.{nextStart, startAt}
+use Rattle.tables.specs.Sections.{sectionWords}
+use Rattle.symbol_table.specs.Symbols.{symbolWords}
+use Rattle.words.specs.Words.{wordBytes, wordOf}
+use Rattle.words.specs.Picked.{picked}
 use Rattle.limits.specs.Records.{FIXUP-BYTES, SKIP-BYTES, EXTERN-BYTES, SYMBOL-BYTES, SECTION-BYTES}
 use Rattle.externs.specs.Externs.{insertName, externStep}
 use Rattle.codes.specs.Puts.{putsBy, puts}
@@ -38,6 +45,12 @@ use Rattle.survey.specs.Survey.{firstFailed, checks, counts, surveyOf}
 use Rattle.survey.specs.Acceptance.{IsFixed, no-skips-all-fixed}
 use Rattle.marks.specs.Marks.{WORD-BYTES, wordsFor}
 use Rattle.checks.specs.Checks.{baseOk}
+use Rattle.symbols.specs.Symbol.{lastTo}
+use Rattle.nearest.specs.declared.RoutineAnswer.{RoutineAnswer}
+use Rattle.nearest.specs.declared.RoutineAnswer.the-variants.{Found, Refused}
+use Rattle.nearest.specs.Nearest.{qualifies, isGreatest, withDistance}
+use Rattle.module.specs.Questions.{firstOf}
+use Rattle.module.specs.Routine.{ofHolder, routine, tableSections}
 use Rattle.loading.specs.declared.answer.Load.{Load}
 use Rattle.loading.specs.declared.answer.Load.the-variants as load
 use Rattle.plan.specs.Plan.{layoutRoom, listsRoom}
@@ -48,6 +61,8 @@ use Rattle.demands.specs.Origin.{fixupAt, fixupValue}
 use Rattle.demands.specs.Demand2.{standardAt, From, Stays, standard-of-file}
 use Rattle.demands.specs.Demand3.{imageAfter, answersAfter, Demand3}
 use Rattle.demands.specs.Loaded.{Lends, load-lends, lentFrom, load-demand-3}
+use Rattle.demands.specs.Counted.{sectionsOf, symbolsOf}
+use Rattle.demands.specs.Traced.{FileSays, askedAfter, load-traced}
 use Rattle.demands.specs.Running.{RunOfLoad, runs-are}
 use Rattle.demands.specs.Table.{smallObject, smallWith, smallCounts, table}
 use Rattle.demands.specs.Demand1.{FirstFailure, survey-refuses, Refuses, load-refuses, load-does}
@@ -160,3 +175,33 @@ small-standard =
 pub small-all-fixed : (k : ℕ) → k < relocationCount smallObject (headerOf smallObject) 0 → IsFixed smallObject smallCounts (table .small) 0 k
 unfolding pick get le headerOf loadedBy
 small-all-fixed k l = no-skips-all-fixed smallObject smallCounts (table .small) refl 0 k (omega arith) l refl
+
+-- ---- the routines of addresses, asked of what that load left: the theorem's hypotheses are met, and three answers
+bytes-by : (l : List ℕ) → allTo (λ i. ltb (getD l i 0) 256) (length l) ≡ true → IsBytes l
+bytes-by l e i =
+    ⊎-elim
+    (λ q. rw (List·getD-eq-default l 0 {n = i} q) (omega arith))
+    (λ q. ltb-true (getD l i 0) 256 (all-at (λ k. ltb (getD l k 0) 256) (length l) i e q))
+    (le-or-lt (length l) i)
+
+small-bytes : IsBytes smallObject
+unfolding allTo le
+small-bytes = bytes-by smallObject refl
+
+pub small-traced : (x : ℕ) → FileSays smallObject 0x20000000 (part (smallLeft 0x20000000 .symbols) 0 (SYMBOL-BYTES * smallCounts .symbols)) x (askedAfter (smallLeft 0x20000000) smallCounts x)
+small-traced = load-traced smallObject small-bytes 0x20000000 smallStorage (smallLeft 0x20000000) smallCounts small-loads
+
+-- _topup is at 0x20000000, and .text has 16 bytes; behind them nothing holds an address, and UNDEF has no symbol
+abbrev pub smallRoutine : ℕ → RoutineAnswer
+smallRoutine x = routine (tableSections (sectionsOf smallObject 0x20000000)) (symbolsOf smallObject 0x20000000) (va x)
+
+pub record SmallRoutines : Type 0 where
+  pub inside : smallRoutine 0x20000004 ≡ Found (record { symbol = 0; distance = 4 })
+  pub last-byte : smallRoutine 0x2000000F ≡ Found (record { symbol = 0; distance = 15 })
+  pub behind : smallRoutine 0x20000010 ≡ Refused 19
+  pub undef : smallRoutine 0x20001000 ≡ Refused 21
+
+pub small-routines : SmallRoutines
+unfolding pick allTo countTo listTo get le headerOf loadedBy permissionsBy fileStart fileEnd rangeLength alignOf roundUp isFunction codeOrData kindBy zeroPlace placeBy listedBy leftAfter auxiliariesLeft primary
+    firstIn isHome homeStart homeRecord sectionHome byNumber startAt nextStart ofPlace offsetFrom listed sectionWords symbolWords picked wordBytes wordOf firstOf lastTo isGreatest qualifies withDistance ofHolder
+small-routines = record { inside = refl; last-byte = refl; behind = refl; undef = refl }

@@ -9,6 +9,7 @@ pub mod Laying
 pub mod Moving
 pub mod Demand3
 pub mod Loaded
+pub mod Traced
 pub mod Running
 pub mod Table
 pub mod Demand1

@@ -15,6 +15,8 @@ use Rattle.section.proofs.Probe as Q
 use Rattle.section.proofs.Probe.Laws as Q′
 use Rattle.section.proofs.OffsetProbe as O
 use Rattle.section.proofs.OffsetProbe.Laws as O′
+use Rattle.nearest.proofs.RoutineAnswer as R
+use Rattle.nearest.proofs.RoutineAnswer.Laws as R′
 use Rattle.answers.proofs.AddressAnswer as P
 use Rattle.answers.proofs.AddressAnswer.Laws as P′
 
@@ -62,6 +64,18 @@ address-word = record {
   tells = EL.tells P.the-type P′.the-laws;
   typed = λ 𝓤 H A W x v g. EL.lawful P.the-type P′.the-laws 𝓤 H A W tt .typed x _ g .0;
   pure = EL.pure P.the-type P′.the-plain;
+  last = λ x. tt;
+  silent = λ x w. refl;
+}
+
+abbrev pub routine-word : Word
+routine-word = record {
+  row = R.the-row;
+  ty = R′.mir;
+  val = EL.val R.the-type R′.the-laws;
+  tells = EL.tells R.the-type R′.the-laws;
+  typed = λ 𝓤 H A W x v g. EL.lawful R.the-type R′.the-laws 𝓤 H A W tt .typed x _ g .0;
+  pure = EL.pure R.the-type R′.the-plain;
   last = λ x. tt;
   silent = λ x w. refl;
 }

@@ -1,2 +1,4 @@
 pub mod Questions
 pub mod QuestionLaws
+pub mod Routine
+pub mod RoutineLaws

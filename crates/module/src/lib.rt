@@ -25,6 +25,7 @@ ghost use Rattle.module.specs.Questions.{
   sectionAt,
   Fills,
 };
+ghost use Rattle.module.specs.Routine.{tableSections, ofHolder, routine};
 use answers::AddressAnswer;
 use arch::VA;
 use limits::SECTION_BYTES;
@@ -38,6 +39,7 @@ use limits::SECTION_PERMISSIONS;
 use limits::SECTION_START;
 use limits::SECTION_WORDS;
 use limits::WORD;
+use nearest::RoutineAnswer;
 use refusal::NO_ENTRY;
 use refusal::NO_SECTION;
 use refusal::Number;
@@ -300,4 +302,44 @@ pub fn is_in_image(t: &[Section], va: VA) -> bool
     ensures { λ r. ⌜ r ≡ isInImage (now (t .entry)) va ⌝ }
 {
     is_backed(t, file_offset(t, va))
+}
+
+// What the symbols of the section answer that was found to hold the address; where none was, its refusal.
+fn of_holder(symbols: &[u8], va: VA, section: Number) -> RoutineAnswer
+    ensures { λ r. ⌜ r ≡ ofHolder (now (symbols .entry)) va section ⌝ }
+{
+    match section {
+        Number::Value(r) => nearest::nearest(symbols, r, va),
+        Number::Refusal(n) => RoutineAnswer::Refused(n),
+    }
+}
+
+// The listed symbol that the address belongs to: of those whose home is the section that holds it, the nearest that does not lie above.
+// `symbols` is the table that load wrote.
+pub fn routine(t: &[Section], symbols: &[u8], va: VA) -> RoutineAnswer
+    ensures { λ r. ⌜ r ≡ routine (now (t .entry)) (now (symbols .entry)) va ⌝ }
+{
+    of_holder(symbols, va, section_of(t, va))
+}
+
+// The number of the first record of load's section table whose range holds the address.
+fn section_in(table: &[u8], va: VA) -> Number
+    ensures { λ r. ⌜ r ≡ sectionOf (tableSections (now (table .entry))) va ⌝ }
+{
+    let n = table.len() / SECTION_BYTES;
+    let mut i = 0;
+    while i < n {
+        if section::holds(section_at(table, i), va) {
+            return index(i);
+        }
+        i += 1;
+    }
+    no_section()
+}
+
+// The same question to both tables as load wrote them.
+pub fn routine_in(table: &[u8], symbols: &[u8], va: VA) -> RoutineAnswer
+    ensures { λ r. ⌜ r ≡ routine (tableSections (now (table .entry))) (now (symbols .entry)) va ⌝ }
+{
+    of_holder(symbols, va, section_in(table, va))
 }

@@ -22,12 +22,12 @@ use Rattle.lines.specs.Lines.{refusedLine, tooLargeLine}
 use Rattle.lines.specs.LineLaws.{refused-long}
 use Rattle.listing.specs.Listing.{listing, lineCount}
 use Rattle.listing.specs.ListingLaws.{lines-counted, line-long}
-use Rattle.demands.specs.Counted.{sectionsOf, externsOf, fixTableOf}
+use Rattle.demands.specs.Counted.{sectionsOf, symbolsOf, externsOf, fixTableOf}
 use Rattle.survey.specs.declared.answer.Counts.{Counts}
 use Rattle.verdict.specs.declared.answer.Verdict.{Verdict}
 use Rattle.verdict.specs.declared.answer.Verdict.the-variants.{TooLarge, Refused, Lines}
 use Rattle.verdict.specs.Verdict.{verdictOf}
-use Rattle.program.specs.Output.{PROGRAM-BASE, symbolsOf, skipTableOf, lineOf, lineTotal}
+use Rattle.program.specs.Output.{PROGRAM-BASE, skipTableOf, lineOf, lineTotal}
 use Rattle.program.specs.Within.{Within, within}
 use Rattle.program.specs.Holding.{LINE-ROOM, Said, Ready, HoldsTables, Printed, holds, image-patched}
 
@@ -69,7 +69,7 @@ module _ (f : List ℕ) (a : List ℕ) (n : ℕ) (line : List ℕ) where
       let v = line-long f PROGRAM-BASE c sections symbols externs fixups skips (omega arith) (omega arith) (omega arith) (omega arith)
       (small sections s) (small symbols y) (small externs x) (small fixups z) (small skips w) k in
       let r = puts-whole (getD (listing f PROGRAM-BASE c sections symbols externs fixups skips) k []) (replicate LINE-ROOM 0) a n p (rw (length-replicate {A = ℕ} LINE-ROOM 0) (omega arith)) in
-      let t : listing f PROGRAM-BASE c sections symbols externs fixups skips ≡ listing f PROGRAM-BASE c (sectionsOf f PROGRAM-BASE) (symbolsOf f) (externsOf f PROGRAM-BASE) (fixTableOf f PROGRAM-BASE) (skipTableOf f) =
+      let t : listing f PROGRAM-BASE c sections symbols externs fixups skips ≡ listing f PROGRAM-BASE c (sectionsOf f PROGRAM-BASE) (symbolsOf f PROGRAM-BASE) (externsOf f PROGRAM-BASE) (fixTableOf f PROGRAM-BASE) (skipTableOf f) =
       rw (h .section-table, h .symbol-table, h .extern-table, h .fixup-table, h .skip-table) in
       record { is = rw (i .verdict, ← m) (q ∙ r ∙ ap (λ (x : List (List ℕ)). getD x k []) t); early = l }
 
@@ -97,7 +97,7 @@ module _ (f : List ℕ) where
 
     total : lineTotal f ≡ lineCount c
     unfolding lineTotal
-    total = rw (h .few .verdict) (lines-counted f PROGRAM-BASE c (sectionsOf f PROGRAM-BASE) (symbolsOf f) (externsOf f PROGRAM-BASE) (fixTableOf f PROGRAM-BASE) (skipTableOf f))
+    total = rw (h .few .verdict) (lines-counted f PROGRAM-BASE c (sectionsOf f PROGRAM-BASE) (symbolsOf f PROGRAM-BASE) (externsOf f PROGRAM-BASE) (fixTableOf f PROGRAM-BASE) (skipTableOf f))
 
     pub early : (i k n : ℕ) → n ≡ lineCount c % 2 ^ 64 → k ≡ i → k < n → i < 1000
     early i k n e m q = let l = few in omega arith

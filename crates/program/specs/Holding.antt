@@ -35,10 +35,10 @@ use Rattle.loading.specs.Load.{roomOk, loadChecks, loadAnswer, Loads}
 use Rattle.load.specs.LoadLaws.{load-accepts, load-leaves}
 use Rattle.demands.specs.Calls.{afterCalls}
 use Rattle.demands.specs.Origin.{fixupsOf, slotsOf}
-use Rattle.demands.specs.Counted.{pagesOf, imageOf, marksOf, sectionsOf, externsOf, fixTableOf}
+use Rattle.demands.specs.Counted.{pagesOf, imageOf, marksOf, sectionsOf, symbolsOf, externsOf, fixTableOf}
 use Rattle.demands.specs.Demand3.{AtBase, demand-3}
 use Rattle.demands.specs.Loaded.{Lends, load-lends}
-use Rattle.program.specs.Output.{PROGRAM-BASE, symbolsOf, skipTableOf, lineOf, lineTotal, patchedImage}
+use Rattle.program.specs.Output.{PROGRAM-BASE, skipTableOf, lineOf, lineTotal, patchedImage}
 use Rattle.program.specs.Within.{Within}
 
 -- room for the longest line, which has a name as long as the file
@@ -69,7 +69,7 @@ pub record Ready (f : List ℕ) (c : Counts) (s : Storage) : Type 0 where
 pub record HoldsTables (f : List ℕ) (c : Counts) (sections symbols externs fixups skips : List ℕ) : Type 0 where
   pub few : Within f c
   pub section-table : sections ≡ sectionsOf f PROGRAM-BASE
-  pub symbol-table : symbols ≡ symbolsOf f
+  pub symbol-table : symbols ≡ symbolsOf f PROGRAM-BASE
   pub extern-table : externs ≡ externsOf f PROGRAM-BASE
   pub fixup-table : fixups ≡ fixTableOf f PROGRAM-BASE
   pub skip-table : skips ≡ skipTableOf f
@@ -176,9 +176,9 @@ module _ (f : List ℕ) (c : Counts) (few : Within f c) where
     unfolding storedBy
     sections-are = whole _ _ _ (ap (λ (z : Storage). length (z .sections)) leaves ∙ length-splice (s .sections) 0 (sectionsOf f PROGRAM-BASE) ∙ sized .sections) (lends .sections)
 
-    symbols-are : s′ .symbols ≡ symbolsOf f
+    symbols-are : s′ .symbols ≡ symbolsOf f PROGRAM-BASE
     unfolding storedBy
-    symbols-are = whole _ _ _ (ap (λ (z : Storage). length (z .symbols)) leaves ∙ length-splice (s .symbols) 0 (symbolsOf f) ∙ sized .symbols) (load-leaves f PROGRAM-BASE s s′ c loaded .symbols .counted)
+    symbols-are = whole _ _ _ (ap (λ (z : Storage). length (z .symbols)) leaves ∙ length-splice (s .symbols) 0 (symbolsOf f PROGRAM-BASE) ∙ sized .symbols) (load-leaves f PROGRAM-BASE s s′ c loaded .symbols .counted)
 
     externs-are : s′ .externs ≡ externsOf f PROGRAM-BASE
     unfolding storedBy

@@ -4,12 +4,10 @@ use Prim.Native.Nat.{ℕ}
 use lib.ListN.{length, getD}
 use Rattle.object.specs.Format.{headerOf}
 use Rattle.object.specs.Section.{relocationCount}
-use Rattle.homes.specs.Home.{sectionHome, homeRecords}
-use Rattle.symbol_table.specs.Symbols.{symbolTable}
 use Rattle.lists.specs.Relocations.{skipTable}
 use Rattle.survey.specs.Survey.{outcomes}
 use Rattle.patch.specs.Fixes.{fixCount, fixedFrom}
-use Rattle.demands.specs.Counted.{imageOf, sectionsOf, externsOf, fixTableOf}
+use Rattle.demands.specs.Counted.{imageOf, sectionsOf, symbolsOf, externsOf, fixTableOf}
 use Rattle.lines.specs.Lines.{refusedLine, tooLargeLine}
 use Rattle.listing.specs.Listing.{listing}
 use Rattle.verdict.specs.declared.answer.Verdict.{Verdict}
@@ -20,11 +18,7 @@ use Rattle.verdict.specs.Verdict.{verdictOf}
 abbrev pub PROGRAM-BASE : ℕ
 PROGRAM-BASE = 0x20000000
 
--- the table of symbols that load writes there; sections, extern names and fixups are of `demands`
-abbrev pub symbolsOf : List ℕ → List ℕ
-symbolsOf f = symbolTable f (headerOf f) PROGRAM-BASE (sectionHome f (headerOf f)) (homeRecords f (headerOf f) (headerOf f .sections))
-
--- and that of skips
+-- the table of skips that load writes there; the others are of `demands`
 abbrev pub skipTableOf : List ℕ → List ℕ
 skipTableOf f = skipTable (outcomes f (headerOf f)) (relocationCount f (headerOf f)) (headerOf f .sections)
 
@@ -32,7 +26,7 @@ skipTableOf f = skipTable (outcomes f (headerOf f)) (relocationCount f (headerOf
 abbrev pub linesBy : List ℕ → Verdict → List (List ℕ)
 linesBy f TooLarge = tooLargeLine ∷ []
 linesBy f (Refused n) = refusedLine n ∷ []
-linesBy f (Lines c) = listing f PROGRAM-BASE c (sectionsOf f PROGRAM-BASE) (symbolsOf f) (externsOf f PROGRAM-BASE) (fixTableOf f PROGRAM-BASE) (skipTableOf f)
+linesBy f (Lines c) = listing f PROGRAM-BASE c (sectionsOf f PROGRAM-BASE) (symbolsOf f PROGRAM-BASE) (externsOf f PROGRAM-BASE) (fixTableOf f PROGRAM-BASE) (skipTableOf f)
 
 -- line k, from 0
 unfoldable pub lineOf : List ℕ → ℕ → List ℕ

@@ -39,14 +39,14 @@ use Rattle.lists.specs.RelocationLaws.{length-fixes, fix-back, skipRow, length-
 use Rattle.survey.specs.declared.answer.Counts.{Counts}
 use Rattle.survey.specs.Survey.{countsBy, outcomes}
 use Rattle.survey.specs.Acceptance.{counts-are, fixups-listed, skips-listed}
-use Rattle.demands.specs.Counted.{sectionsOf, externsOf, fixTableOf}
+use Rattle.demands.specs.Counted.{sectionsOf, symbolsOf, externsOf, fixTableOf}
 use Rattle.demands.specs.Origin.{fixupsOf, noFixup, fixupAt, fixupPlace, fixupValue, slotValue}
 use Rattle.lines.specs.Lines.{sectionLine, symbolLine, externLine, fixLine, skipLine, skippedLine}
 use Rattle.listing.specs.Listing.{sectionTitle, sectionLineAt, symbolLineAt, externLineAt, fixLineAt, skipLineAt, fromSymbols, fromExterns, fromFixups, fromSkips}
 use Rattle.listing.specs.ListingLaws.{at-row}
 use Rattle.verdict.specs.declared.answer.Verdict.the-variants.{Lines}
 use Rattle.verdict.specs.Verdict.{verdictOf}
-use Rattle.program.specs.Output.{PROGRAM-BASE, symbolsOf, skipTableOf, lineOf}
+use Rattle.program.specs.Output.{PROGRAM-BASE, skipTableOf, lineOf}
 use Rattle.program.specs.Within.{Within, within}
 
 -- a word of a record has 64 bits
@@ -105,7 +105,7 @@ module _ (f : List ℕ) (c : Counts) (is : verdictOf f ≡ Lines c) where
   -- ---- a loaded section, by its place among the loaded ones
   section-at : (k : ℕ) → k < c .sections → lineOf f (suc k) ≡ sectionLineAt f (sectionsOf f PROGRAM-BASE) k
   unfolding lineOf
-  section-at k q = rw is (at-row (sectionLineAt f (sectionsOf f PROGRAM-BASE)) (fromSymbols f c (symbolsOf f) (externsOf f PROGRAM-BASE) (fixTableOf f PROGRAM-BASE) (skipTableOf f)) (c .sections) k q)
+  section-at k q = rw is (at-row (sectionLineAt f (sectionsOf f PROGRAM-BASE)) (fromSymbols f c (symbolsOf f PROGRAM-BASE) (externsOf f PROGRAM-BASE) (fixTableOf f PROGRAM-BASE) (skipTableOf f)) (c .sections) k q)
 
   section-word : (i : ℕ) → i < h .sections → loaded f h i ≡ true → (w : ℕ) → w < SECTION-WORDS
       → wordOf SECTION-WORDS (sectionsOf f PROGRAM-BASE) (recordOf f h i) w ≡ low (getD (sectionWords f h PROGRAM-BASE starts i) w 0)
@@ -129,18 +129,18 @@ module _ (f : List ℕ) (c : Counts) (is : verdictOf f ≡ Lines c) where
       ∙ rw (w 0 (omega arith), w 1 (omega arith), w 2 (omega arith), w 3 (omega arith), w 4 (omega arith), w 5 (omega arith), w 6 (omega arith), w 7 (omega arith), z)
 
   -- ---- a listed symbol, behind the sections, by its place among the listed ones
-  symbol-at : (k : ℕ) → k < c .symbols → lineOf f (suc (c .sections + k)) ≡ symbolLineAt f (symbolsOf f) k
+  symbol-at : (k : ℕ) → k < c .symbols → lineOf f (suc (c .sections + k)) ≡ symbolLineAt f (symbolsOf f PROGRAM-BASE) k
   unfolding lineOf
   symbol-at k q =
       rw is
-      (behind (sectionLineAt f (sectionsOf f PROGRAM-BASE)) (c .sections) k (fromSymbols f c (symbolsOf f) (externsOf f PROGRAM-BASE) (fixTableOf f PROGRAM-BASE) (skipTableOf f))
-      ∙ at-row (symbolLineAt f (symbolsOf f)) (fromExterns f c (externsOf f PROGRAM-BASE) (fixTableOf f PROGRAM-BASE) (skipTableOf f)) (c .symbols) k q)
+      (behind (sectionLineAt f (sectionsOf f PROGRAM-BASE)) (c .sections) k (fromSymbols f c (symbolsOf f PROGRAM-BASE) (externsOf f PROGRAM-BASE) (fixTableOf f PROGRAM-BASE) (skipTableOf f))
+      ∙ at-row (symbolLineAt f (symbolsOf f PROGRAM-BASE)) (fromExterns f c (externsOf f PROGRAM-BASE) (fixTableOf f PROGRAM-BASE) (skipTableOf f)) (c .symbols) k q)
 
   symbol-word : (j : ℕ) → j < h .symbols → listed f h (sectionHome f h) j ≡ true → (w : ℕ) → w < SYMBOL-WORDS
-      → wordOf SYMBOL-WORDS (symbolsOf f) (countTo (listed f h (sectionHome f h)) j) w ≡ low (getD (symbolWords f h PROGRAM-BASE (sectionHome f h) (homeRecords f h (h .sections)) j) w 0)
+      → wordOf SYMBOL-WORDS (symbolsOf f PROGRAM-BASE) (countTo (listed f h (sectionHome f h)) j) w ≡ low (getD (symbolWords f h PROGRAM-BASE (sectionHome f h) (homeRecords f h (h .sections)) j) w 0)
   symbol-word j n t w q =
-      rw (splice-self (symbolsOf f)) at
-      (symbol-record f h PROGRAM-BASE (sectionHome f h) (homeRecords f h (h .sections)) (symbolsOf f)
+      rw (splice-self (symbolsOf f PROGRAM-BASE)) at
+      (symbol-record f h PROGRAM-BASE (sectionHome f h) (homeRecords f h (h .sections)) (symbolsOf f PROGRAM-BASE)
       (let z = length-symbols f h PROGRAM-BASE (sectionHome f h) (homeRecords f h (h .sections)) in omega arith) w q j n t)
 
   pub symbol-said : (j : ℕ) → j < h .symbols → listed f h (sectionHome f h) j ≡ true
@@ -159,8 +159,8 @@ module _ (f : List ℕ) (c : Counts) (is : verdictOf f ≡ Lines c) where
   unfolding lineOf
   extern-at e q =
       rw is
-      (behind (sectionLineAt f (sectionsOf f PROGRAM-BASE)) (c .sections) (c .symbols + e) (fromSymbols f c (symbolsOf f) (externsOf f PROGRAM-BASE) (fixTableOf f PROGRAM-BASE) (skipTableOf f))
-      ∙ behind (symbolLineAt f (symbolsOf f)) (c .symbols) e (fromExterns f c (externsOf f PROGRAM-BASE) (fixTableOf f PROGRAM-BASE) (skipTableOf f))
+      (behind (sectionLineAt f (sectionsOf f PROGRAM-BASE)) (c .sections) (c .symbols + e) (fromSymbols f c (symbolsOf f PROGRAM-BASE) (externsOf f PROGRAM-BASE) (fixTableOf f PROGRAM-BASE) (skipTableOf f))
+      ∙ behind (symbolLineAt f (symbolsOf f PROGRAM-BASE)) (c .symbols) e (fromExterns f c (externsOf f PROGRAM-BASE) (fixTableOf f PROGRAM-BASE) (skipTableOf f))
       ∙ at-row (externLineAt f (externsOf f PROGRAM-BASE)) (fromFixups c (fixTableOf f PROGRAM-BASE) (skipTableOf f)) (c .externs) e q)
 
   extern-word : (e : ℕ) → e < length (externs f h) → (w : ℕ) → w < EXTERN-WORDS → wordOf EXTERN-WORDS (externsOf f PROGRAM-BASE) e w ≡ low (getD (externWords f h PROGRAM-BASE (undefStart f h) (externs f h) e) w 0)
@@ -182,8 +182,8 @@ module _ (f : List ℕ) (c : Counts) (is : verdictOf f ≡ Lines c) where
   unfolding lineOf
   fix-at k q =
       rw is
-      (behind (sectionLineAt f (sectionsOf f PROGRAM-BASE)) (c .sections) (c .symbols + (c .externs + k)) (fromSymbols f c (symbolsOf f) (externsOf f PROGRAM-BASE) (fixTableOf f PROGRAM-BASE) (skipTableOf f))
-      ∙ behind (symbolLineAt f (symbolsOf f)) (c .symbols) (c .externs + k) (fromExterns f c (externsOf f PROGRAM-BASE) (fixTableOf f PROGRAM-BASE) (skipTableOf f))
+      (behind (sectionLineAt f (sectionsOf f PROGRAM-BASE)) (c .sections) (c .symbols + (c .externs + k)) (fromSymbols f c (symbolsOf f PROGRAM-BASE) (externsOf f PROGRAM-BASE) (fixTableOf f PROGRAM-BASE) (skipTableOf f))
+      ∙ behind (symbolLineAt f (symbolsOf f PROGRAM-BASE)) (c .symbols) (c .externs + k) (fromExterns f c (externsOf f PROGRAM-BASE) (fixTableOf f PROGRAM-BASE) (skipTableOf f))
       ∙ behind (externLineAt f (externsOf f PROGRAM-BASE)) (c .externs) k (fromFixups c (fixTableOf f PROGRAM-BASE) (skipTableOf f))
       ∙ at-row (fixLineAt (fixTableOf f PROGRAM-BASE)) (fromSkips c (skipTableOf f)) (c .fixups) k q)
 
@@ -206,8 +206,8 @@ module _ (f : List ℕ) (c : Counts) (is : verdictOf f ≡ Lines c) where
   unfolding lineOf
   skip-at k q =
       rw is
-      (behind (sectionLineAt f (sectionsOf f PROGRAM-BASE)) (c .sections) (c .symbols + (c .externs + (c .fixups + k))) (fromSymbols f c (symbolsOf f) (externsOf f PROGRAM-BASE) (fixTableOf f PROGRAM-BASE) (skipTableOf f))
-      ∙ behind (symbolLineAt f (symbolsOf f)) (c .symbols) (c .externs + (c .fixups + k)) (fromExterns f c (externsOf f PROGRAM-BASE) (fixTableOf f PROGRAM-BASE) (skipTableOf f))
+      (behind (sectionLineAt f (sectionsOf f PROGRAM-BASE)) (c .sections) (c .symbols + (c .externs + (c .fixups + k))) (fromSymbols f c (symbolsOf f PROGRAM-BASE) (externsOf f PROGRAM-BASE) (fixTableOf f PROGRAM-BASE) (skipTableOf f))
+      ∙ behind (symbolLineAt f (symbolsOf f PROGRAM-BASE)) (c .symbols) (c .externs + (c .fixups + k)) (fromExterns f c (externsOf f PROGRAM-BASE) (fixTableOf f PROGRAM-BASE) (skipTableOf f))
       ∙ behind (externLineAt f (externsOf f PROGRAM-BASE)) (c .externs) (c .fixups + k) (fromFixups c (fixTableOf f PROGRAM-BASE) (skipTableOf f))
       ∙ behind (fixLineAt (fixTableOf f PROGRAM-BASE)) (c .fixups) k (fromSkips c (skipTableOf f))
       ∙ at-row (skipLineAt (skipTableOf f)) (skippedLine (c .skips) (c .passed) ∷ []) (c .skips) k q)

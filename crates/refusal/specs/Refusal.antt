@@ -102,6 +102,10 @@ NO-SECTION = 19
 abbrev pub NO-ENTRY : ℕ
 NO-ENTRY = 20
 
+-- no listed symbol of the section that holds the address lies at it or below (02, N1)
+abbrev pub NO-ROUTINE : ℕ
+NO-ROUTINE = 21
+
 -- what an operation says and leaves that writes one lent buffer: `code` is the definition's, and on a refusal nothing has changed
 pub record Leaves {A : Type 0} (code : ℕ) (old new at-exit : A) (r : Answer) : Type 0 where
   pub says : r ≡ doneOf code

@@ -62,6 +62,9 @@ pub const NO_SECTION: u64 = 19;
 // No record has that name, address or number.
 pub const NO_ENTRY: u64 = 20;
 
+// No listed symbol of the section that holds the address lies at it or below.
+pub const NO_ROUTINE: u64 = 21;
+
 // What an operation says that only writes: done, or the number of its refusal.
 pub enum Answer {
     Done,

@@ -1,4 +1,4 @@
--- What survey, load and patch hand back, as words at the front of a lent buffer (docs/HOST.md).
+-- What survey, load, patch and the routine question hand back, as words at the front of a lent buffer (docs/HOST.md).
 use mathlib.Core.Bool.{Bool}
 use mathlib.Core.List.{List, [], _∷_}
 use Prim.Native.Nat.{ℕ}
@@ -31,3 +31,11 @@ PROGRESS-BYTES = 16
 -- where a portion of fixups ended, and 1 if the list ends there, else 0
 abbrev pub progressWords : ℕ → Bool → List ℕ
 progressWords position done = position ∷ pick done 1 0 ∷ []
+
+-- the two words of the routine that an address is in
+abbrev pub ROUTINE-BYTES : ℕ
+ROUTINE-BYTES = 16
+
+-- the symbol's number in the list, and how far behind it the address lies
+abbrev pub routineWords : ℕ → ℕ → List ℕ
+routineWords symbol distance = symbol ∷ distance ∷ []

@@ -7,6 +7,9 @@ use Prim.Native.Nat.{ℕ, zero, suc}
 use lib.Dec.{leb, eqb}
 use lib.ListN.{length}
 use Rattle.util.specs.Pick.{pick, yes-no}
+use Rattle.arch.specs.Address.{va}
+use Rattle.words.specs.Words.{wordBytes}
+use Rattle.le.specs.Le.{splice}
 use Rattle.refusal.specs.Refusal.{BASE, STORAGE, POSITION, doneOf, unlessRefused, Leaves}
 use Rattle.refusal.specs.declared.Answer.{Answer}
 use Rattle.refusal.specs.declared.Answer.the-variants.{Done, Refused}
@@ -16,7 +19,11 @@ use Rattle.survey.specs.declared.answer.Counts.{Counts}
 use Rattle.survey.specs.declared.answer.Survey.{Survey}
 use Rattle.survey.specs.declared.answer.Survey.the-variants as survey
 use Rattle.survey.specs.Survey.{Check, check, firstFailed, checks, counts, answerBy, surveyOf}
-use Rattle.results.specs.Results.{COUNTS-BYTES, countsWords, PROGRESS-BYTES, progressWords}
+use Rattle.results.specs.Results.{COUNTS-BYTES, countsWords, PROGRESS-BYTES, progressWords, ROUTINE-BYTES, routineWords}
+use Rattle.nearest.specs.declared.Routine.{Routine}
+use Rattle.nearest.specs.declared.RoutineAnswer.{RoutineAnswer}
+use Rattle.nearest.specs.declared.RoutineAnswer.the-variants as traced
+use Rattle.module.specs.Routine.{tableSections, routine}
 use Rattle.loading.specs.declared.answer.Load.{Load}
 use Rattle.loading.specs.declared.answer.Load.the-variants as load
 use Rattle.storage.specs.Storage.{Storage, stored}
@@ -26,7 +33,7 @@ use Rattle.patch.specs.declared.answer.Patch.{Patch}
 use Rattle.patch.specs.declared.answer.Patch.the-variants as patch
 use Rattle.patch.specs.Fixes.{fixCount}
 use Rattle.patch.specs.Patch.{patchCode, answerOf, Patches}
-use Rattle.station.specs.Station.{codeWith, patchCodeWith, toldIn, Told, ToldBoth, Surveyed, Loaded, Patched, answerCode, asSurvey, surveyCode, countsIn, CountsTold, untold, unstoredCode, unlaidCode, untoldPatchCode, patchAnswerCode, progressIn, ProgressTold}
+use Rattle.station.specs.Station.{codeWith, patchCodeWith, toldIn, Told, ToldBoth, Surveyed, Loaded, Patched, routineCode, nearestWords, Traced, answerCode, asSurvey, surveyCode, countsIn, CountsTold, untold, unstoredCode, unlaidCode, untoldPatchCode, patchAnswerCode, progressIn, ProgressTold, RoutineTold}
 use Rattle.station.specs.StationLaws.{not-zero, room-same, short-kept, patch-room, patch-short, untold-kept}
 
 -- ---- an answer, told
@@ -229,3 +236,34 @@ module _ (base : ℕ) (marks fixes : List ℕ) (number position : ℕ) (image ou
 
 pub read-told : (code : ℕ) (out new out′ : List ℕ) (a : Answer) (r : ℕ) → Leaves code out new out′ a → r ≡ answerCode a → Told code new out out′ r
 read-told code out new out′ a r q e = record { says = e ∙ answer-by code a (q .says); leaves = q .leaves }
+
+-- ---- the routine of an address
+none-told : (out : List ℕ) → toldIn out [] ≡ out
+unfolding wordBytes splice
+none-told out = refl
+
+pub routine-found : (a : RoutineAnswer) (p : Routine) (out out′ : List ℕ) → a ≡ traced.Found p → out′ ≡ toldIn out (routineWords (p .symbol) (p .distance)) → RoutineTold a out out′ 0
+unfolding routineCode nearestWords
+routine-found a p out out′ e d = rw e (record { says = refl; result = d })
+
+pub routine-refused : (a : RoutineAnswer) (n : ℕ) (out : List ℕ) → a ≡ traced.Refused n → RoutineTold a out out n
+unfolding routineCode nearestWords
+routine-refused a n out e = rw e (record { says = refl; result = sym (none-told out) })
+
+pub ruleset tracing = (routine-found, routine-refused)
+
+routine-by : (a : RoutineAnswer) (out out′ : List ℕ) (r : ℕ) → RoutineTold a out out′ r → Told (routineCode a) (toldIn out (nearestWords a)) out out′ r
+unfolding routineCode nearestWords unlessRefused
+routine-by (traced.Found p) out out′ r t = record { says = t .says; leaves = t .result }
+routine-by (traced.Refused zero) out out′ r t = record { says = t .says; leaves = t .result }
+routine-by (traced.Refused (suc k)) out out′ r t = record { says = t .says; leaves = t .result ∙ none-told out }
+
+module _ (sections symbols : List ℕ) (address : ℕ) (out : List ℕ) where
+  pub routine-told : (a : RoutineAnswer) (out′ : List ℕ) (r : ℕ) → leb ROUTINE-BYTES (length out) ≡ true → a ≡ routine (tableSections sections) symbols (va address) → RoutineTold a out out′ r
+      → Traced sections symbols address out out′ r
+  unfolding pick
+  routine-told a out′ r e q t = rw (e, ← q) (routine-by a out out′ r t)
+
+  pub routine-untold : leb ROUTINE-BYTES (length out) ≡ false → Traced sections symbols address out out STORAGE
+  unfolding pick unlessRefused
+  routine-untold e = rw e (record { says = refl; leaves = refl })

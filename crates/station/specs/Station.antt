@@ -1,11 +1,12 @@
 -- What the host is told: 0 or the number of a refusal, and results as words at the front of a lent buffer (docs/HOST.md, "Calling from C").
 use mathlib.Core.Path.{_≡_}
-use mathlib.Core.List.{List}
+use mathlib.Core.List.{List, []}
 use Prim.Native.Nat.{ℕ, zero, suc, _+_, _-_}
 use lib.Dec.{leb, eqb}
 use lib.ListN.{length}
 use Rattle.util.specs.Pick.{pick}
 use Rattle.le.specs.Le.{splice, part}
+use Rattle.arch.specs.Address.{va}
 use Rattle.refusal.specs.Refusal.{BASE, STORAGE, POSITION, unlessRefused}
 use Rattle.refusal.specs.declared.Answer.{Answer}
 use Rattle.refusal.specs.declared.Answer.the-variants.{Done, Refused}
@@ -15,7 +16,7 @@ use Rattle.survey.specs.declared.answer.Survey.{Survey}
 use Rattle.survey.specs.declared.answer.Survey.the-variants as survey
 use Rattle.survey.specs.Survey.{firstFailed, checks, counts, surveyOf}
 use Rattle.words.specs.Words.{wordBytes}
-use Rattle.results.specs.Results.{COUNTS-BYTES, countsWords, PROGRESS-BYTES, progressWords}
+use Rattle.results.specs.Results.{COUNTS-BYTES, countsWords, PROGRESS-BYTES, progressWords, ROUTINE-BYTES, routineWords}
 use Rattle.loading.specs.declared.answer.Load.{Load}
 use Rattle.loading.specs.declared.answer.Load.the-variants as load
 use Rattle.storage.specs.Storage.{Storage, stored}
@@ -25,6 +26,9 @@ use Rattle.patch.specs.declared.answer.Patch.the-variants as patch
 use Rattle.patch.specs.Fixes.{fixCount, fixedFrom}
 use Rattle.patch.specs.Patch.{portion, patchCode}
 use Rattle.aspace.specs.Space.{readCodeAt}
+use Rattle.nearest.specs.declared.RoutineAnswer.{RoutineAnswer}
+use Rattle.nearest.specs.declared.RoutineAnswer.the-variants as traced
+use Rattle.module.specs.Routine.{tableSections, routine}
 
 -- the operation's own refusals, 1 to 13; then 13, where a buffer has no room for n bytes of results
 unfoldable pub codeWith : ℕ → List ℕ → ℕ → ℕ
@@ -91,6 +95,26 @@ abbrev pub Read : ℕ → List ℕ → List ℕ → ℕ → List ℕ → List �
 Read base image marks address out out′ r =
     Told (readCodeAt (length image) marks base address (length out)) (part image (address - base) (length out)) out out′ r
 
+-- 0, or the refusal of the question for an address's routine
+unfoldable pub routineCode : RoutineAnswer → ℕ
+routineCode (traced.Found a) = 0
+routineCode (traced.Refused n) = n
+
+-- its two words; of a refusal there are none
+unfoldable pub nearestWords : RoutineAnswer → List ℕ
+nearestWords (traced.Found a) = routineWords (a .symbol) (a .distance)
+nearestWords (traced.Refused n) = []
+
+-- routine: 13, where the result has no room; 19; 21. Both tables are taken by their whole records
+abbrev pub Traced : List ℕ → List ℕ → ℕ → List ℕ → List ℕ → ℕ → Type 0
+Traced sections symbols address out out′ r =
+    Told
+    (pick (leb ROUTINE-BYTES (length out)) (routineCode (routine (tableSections sections) symbols (va address))) STORAGE)
+    (toldIn out (nearestWords (routine (tableSections sections) symbols (va address))))
+    out
+    out′
+    r
+
 -- ---- the answers of the operations themselves, told
 unfoldable pub answerCode : Answer → ℕ
 answerCode Done = 0
@@ -148,3 +172,8 @@ progressIn (patch.Refused n) out = out
 pub record ProgressTold (answer : Patch) (out out′ : List ℕ) (r : ℕ) : Type 0 where
   pub says : r ≡ patchAnswerCode answer
   pub result : out′ ≡ progressIn answer out
+
+-- what the host is told of a routine's answer
+pub record RoutineTold (answer : RoutineAnswer) (out out′ : List ℕ) (r : ℕ) : Type 0 where
+  pub says : r ≡ routineCode answer
+  pub result : out′ ≡ toldIn out (nearestWords answer)

@@ -1,8 +1,9 @@
-// What the station's host calls from C: survey, load, patch and read, on numbers and lent bytes. Each answers 0 or the number of its
+// What the station's host calls from C: survey, load, patch, read and the routine of an address, on numbers and lent bytes. Each answers 0 or the number of its
 // refusal; what else there is to say goes to the front of a lent buffer, as words (docs/HOST.md). Too short a buffer for that is 13, where 13
 // stands in the operation's order, and then nothing is written.
 use arch::VA;
 use load::Load;
+use nearest::RoutineAnswer;
 use patch::Patch;
 use refusal::Answer;
 use survey::Survey;
@@ -12,6 +13,7 @@ ghost use Rattle.station.specs.Station.{
   asSurvey,
   CountsTold,
   ProgressTold,
+  RoutineTold,
   answerCode,
   unstoredCode,
   unlaidCode,
@@ -20,6 +22,7 @@ ghost use Rattle.station.specs.Station.{
   Loaded,
   Patched,
   Read,
+  Traced,
 };
 
 // The ten words of survey's and load's counts.
@@ -27,6 +30,9 @@ pub const COUNTS_BYTES: usize = 80;
 
 // The two words of patch: the position behind the portion, and 1 where the list ends there.
 pub const PROGRESS_BYTES: usize = 16;
+
+// The two words of the routine that an address is in: the symbol's number in the list, and the distance.
+pub const ROUTINE_BYTES: usize = 16;
 
 fn tell_counts(answer: Survey, out: &mut [u8]) -> u64
     ensures { λ r. ⌜ CountsTold answer (now (out .entry)) (now (out .exit)) r ⌝ }
@@ -64,6 +70,18 @@ fn tell_progress(answer: Patch, out: &mut [u8]) -> u64
             0
         }
         Patch::Refused(n) => n,
+    }
+}
+
+fn tell_routine(answer: RoutineAnswer, out: &mut [u8]) -> u64
+    ensures { λ r. ⌜ RoutineTold answer (now (out .entry)) (now (out .exit)) r ⌝ }
+{
+    match answer {
+        RoutineAnswer::Found(a) => {
+            results::write_routine(a.symbol, a.distance, out);
+            0
+        }
+        RoutineAnswer::Refused(n) => n,
     }
 }
 
@@ -194,4 +212,22 @@ pub extern "C" fn nelgrauf_read(
     ensures { λ r. ⌜ Read base (now (image .entry)) (now (marks .entry)) address (now (out .entry)) (now (out .exit)) r ⌝ }
 {
     answer_code(aspace::absolute::read_into(image, marks, VA(base), VA(address), out))
+}
+
+// The listed symbol that an address belongs to, by the two tables as load wrote them: 16 bytes.
+#[no_mangle]
+pub extern "C" fn nelgrauf_routine(
+    sections: &[u8],
+    symbols: &[u8],
+    address: u64,
+    result: &mut [u8],
+) -> u64
+    ensures { λ r. ⌜ Traced (now (sections .entry)) (now (symbols .entry)) address (now (result .entry)) (now (result .exit)) r ⌝ }
+{
+    let room = ROUTINE_BYTES <= result.len();
+    if room {
+        tell_routine(module::routine_in(sections, symbols, VA(address)), result)
+    } else {
+        refusal::STORAGE
+    }
 }

@@ -104,15 +104,15 @@ lies-at-is table a k x e = rw e
 
 -- ---- the ways through the two scans
 module _ (p : ℕ → Bool) (n : ℕ) (A : Number) where
-  pub last-hit : {r : Bool} → 0 < n → lastTo p n ≡ A → r ≡ p (n - 1) → r ≡ true → Value (n - 1) ≡ A
+  pub last-hit : {r : Bool} → 0 < n → lastTo NO-ENTRY p n ≡ A → r ≡ p (n - 1) → r ≡ true → Value (n - 1) ≡ A
   unfolding lastTo pick
   last-hit h e q t = let s : n ≡ suc (n - 1) = omega arith in rw (s, ← q, t) at e
 
-  pub last-miss : {r : Bool} → 0 < n → lastTo p n ≡ A → r ≡ p (n - 1) → r ≡ false → lastTo p (n - 1) ≡ A
+  pub last-miss : {r : Bool} → 0 < n → lastTo NO-ENTRY p n ≡ A → r ≡ p (n - 1) → r ≡ false → lastTo NO-ENTRY p (n - 1) ≡ A
   unfolding lastTo pick
   last-miss h e q t = let s : n ≡ suc (n - 1) = omega arith in rw (s, ← q, t) at e
 
-  pub last-end : n ≤ 0 → lastTo p n ≡ A → Refusal NO-ENTRY ≡ A
+  pub last-end : n ≤ 0 → lastTo NO-ENTRY p n ≡ A → Refusal NO-ENTRY ≡ A
   unfolding lastTo
   last-end h e = let s : n ≡ 0 = omega arith in rw s at e
 

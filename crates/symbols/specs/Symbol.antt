@@ -68,14 +68,14 @@ nameOf W n file table k = pick (ltb k n) (part file (wordOf W table k NAME-START
 abbrev pub hasName : ℕ → ℕ → List ℕ → List ℕ → List ℕ → ℕ → Bool
 hasName W n file table name k = sameBytes (nameOf W n file table k) name
 
--- the last below n of which p holds
-unfoldable pub lastTo : (ℕ → Bool) → ℕ → Number
-lastTo p zero = Refusal NO-ENTRY
-lastTo p (suc n) = pick (p n) (Value n) (lastTo p n)
+-- the last below n of which p holds; where there is none, the refusal c
+unfoldable pub lastTo : ℕ → (ℕ → Bool) → ℕ → Number
+lastTo c p zero = Refusal c
+lastTo c p (suc n) = pick (p n) (Value n) (lastTo c p n)
 
 -- a name finds the last
 abbrev pub lastNamed : ℕ → ℕ → List ℕ → List ℕ → List ℕ → Number
-lastNamed W n file table name = lastTo (hasName W n file table name) n
+lastNamed W n file table name = lastTo NO-ENTRY (hasName W n file table name) n
 
 -- the last symbol of a name, by its record's number
 abbrev pub symbolNamed : List ℕ → List ℕ → List ℕ → Number

@@ -13,8 +13,8 @@ use Rattle.refusal.specs.Refusal.{NO-ENTRY}
 use Rattle.symbols.specs.Symbol.{symbolCount, hasName, lastTo, lastNamed, firstFrom, liesAt, symbolAt}
 
 -- ---- the last below n of which p holds
-module _ (p : ℕ → Bool) where
-  last-is : (n k : ℕ) → k < n → p k ≡ true → ((j : ℕ) → k < j → j < n → p j ≡ false) → lastTo p n ≡ Value k
+module _ (c : ℕ) (p : ℕ → Bool) where
+  pub last-is : (n k : ℕ) → k < n → p k ≡ true → ((j : ℕ) → k < j → j < n → p j ≡ false) → lastTo c p n ≡ Value k
   unfolding lastTo pick
   last-is zero k l h n = absurd (not-suc-le-zero l)
   last-is (suc m) k l h n =
@@ -23,12 +23,13 @@ module _ (p : ℕ → Bool) where
       (λ q. let f : p m ≡ false = n m q (omega arith) in rw f (last-is m k q h (λ j a b. n j a (omega arith))))
       (eq-or-lt-of-le (le-of-suc-le-suc l))
 
-  last-none : (n : ℕ) → ((j : ℕ) → j < n → p j ≡ false) → lastTo p n ≡ Refusal NO-ENTRY
+  pub last-none : (n : ℕ) → ((j : ℕ) → j < n → p j ≡ false) → lastTo c p n ≡ Refusal c
   unfolding lastTo pick
   last-none zero n = refl
   last-none (suc m) n = let f : p m ≡ false = n m (omega arith) in rw f (last-none m (λ j q. n j (omega arith)))
 
-  -- the first from i on of n
+-- ---- the first from i on of n
+module _ (p : ℕ → Bool) where
   first-is : (n i k : ℕ) → i ≤ k → k < i + n → p k ≡ true → ((j : ℕ) → i ≤ j → j < k → p j ≡ false) → firstFrom p i n ≡ Value k
   unfolding firstFrom pick
   first-is zero i k a b h n = absurd (let w : k < k = omega arith in omega arith)
@@ -46,10 +47,10 @@ module _ (p : ℕ → Bool) where
 -- ---- a name finds the last record in file order that has it, and is refused by 20 if none has; of symbols and of extern names
 module _ (W n : ℕ) (file table name : List ℕ) where
   pub name-finds-the-last : (k : ℕ) → k < n → hasName W n file table name k ≡ true → ((j : ℕ) → k < j → j < n → hasName W n file table name j ≡ false) → lastNamed W n file table name ≡ Value k
-  name-finds-the-last k l h o = last-is (hasName W n file table name) n k l h o
+  name-finds-the-last k l h o = last-is NO-ENTRY (hasName W n file table name) n k l h o
 
   pub no-such-name : ((j : ℕ) → j < n → hasName W n file table name j ≡ false) → lastNamed W n file table name ≡ Refusal NO-ENTRY
-  no-such-name o = last-none (hasName W n file table name) n o
+  no-such-name o = last-none NO-ENTRY (hasName W n file table name) n o
 
 -- ---- an address finds all: asked again from one more than the last answer, it gives each in turn, and then 20
 module _ (table : List ℕ) (x : VA) (from : ℕ) where

@@ -11,8 +11,10 @@ ghost use Rattle.module.specs.Questions.{
   probeVa,
   probeRva,
 };
+ghost use Rattle.module.specs.Routine.{routine};
 use answers::AddressAnswer;
 use arch::VA;
+use nearest::RoutineAnswer;
 use refusal::Number;
 use section::OffsetProbe;
 use section::Probe;
@@ -104,4 +106,11 @@ pub fn section_named(t: [Section; 17], file: &[u8], name: &[u8]) -> Number
     ensures { λ r. ⌜ r ≡ sectionNamed t (now (file .entry)) (now (name .entry)) ⌝ }
 {
     module::section_named(&t, file, name)
+}
+
+// Which routine an address is in.
+pub fn routine(t: [Section; 17], symbols: &[u8], va: VA) -> RoutineAnswer
+    ensures { λ r. ⌜ r ≡ routine t (now (symbols .entry)) va ⌝ }
+{
+    module::routine(&t, symbols, va)
 }

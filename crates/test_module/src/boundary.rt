@@ -40,11 +40,11 @@ fn behind(x: u64, n: u64) -> u64 {
 }
 
 // The bounds of every section's ranges, its name, and two names more.
-pub fn all(f: &[u8], table: &[u8], n: u16) {
+pub fn all(f: &[u8], table: &[u8], symbols: &[u8], n: u16) {
     let t = ask::sections(table);
     let mut i: u16 = 0;
     while i < n {
-        range(t, word(table, i, START), word(table, i, END));
+        range(t, symbols, word(table, i, START), word(table, i, END));
         file_range(t, word(table, i, FILE_START), word(table, i, FILE_END));
         own_name(t, f, table, i);
         i += 1;
@@ -54,14 +54,14 @@ pub fn all(f: &[u8], table: &[u8], n: u16) {
 }
 
 // The bounds of a range, and the page behind it.
-fn range(t: [Section; 17], start: u64, end: u64) {
-    at(t, VA(before(start)));
-    at(t, VA(start));
-    at(t, VA(behind(start, 1)));
-    at(t, VA(before(end)));
-    at(t, VA(end));
-    at(t, VA(behind(end, PAGE_SIZE - 1)));
-    at(t, VA(behind(end, PAGE_SIZE)));
+fn range(t: [Section; 17], symbols: &[u8], start: u64, end: u64) {
+    at(t, symbols, VA(before(start)));
+    at(t, symbols, VA(start));
+    at(t, symbols, VA(behind(start, 1)));
+    at(t, symbols, VA(before(end)));
+    at(t, symbols, VA(end));
+    at(t, symbols, VA(behind(end, PAGE_SIZE - 1)));
+    at(t, symbols, VA(behind(end, PAGE_SIZE)));
 }
 
 fn file_range(t: [Section; 17], start: u64, end: u64) {
@@ -72,15 +72,15 @@ fn file_range(t: [Section; 17], start: u64, end: u64) {
 }
 
 // An address, and the offset that it is from the base; below the base it is none.
-fn at(t: [Section; 17], va: VA) {
-    address(t, va);
+fn at(t: [Section; 17], symbols: &[u8], va: VA) {
+    address(t, symbols, va);
     if BASE <= va.0 {
         offset(t, RVA(va.0 - BASE));
     }
 }
 
-// An address: its file offset, its section, whether it is in the image, and probes for 0, 1, 2, 4 and 7.
-fn address(t: [Section; 17], va: VA) {
+// An address: its file offset, its section, whether it is in the image, probes for 0, 1, 2, 4 and 7, and its routine.
+fn address(t: [Section; 17], symbols: &[u8], va: VA) {
     cases::address(b"at ", va.0);
     say::number(ask::file_offset(t, va));
     say::number(ask::section_of(t, va));
@@ -90,6 +90,7 @@ fn address(t: [Section; 17], va: VA) {
     probe(t, va, 2);
     probe(t, va, 4);
     probe(t, va, 7);
+    say::routine(ask::routine(t, symbols, va));
     say::end();
 }
 

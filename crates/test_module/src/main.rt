@@ -71,17 +71,15 @@ fn refused(n: u64) {
 // The counted parts of the tables.
 fn asked(f: &[u8], c: Counts, sections: &[u8], symbols: &[u8], externs: &[u8]) {
     let n = cases::few(c.sections);
+    let k = cases::few(c.symbols);
+    let list = le::part(symbols, 0, k as usize * limits::SYMBOL_BYTES);
     boundary::all(
         f,
         le::part(sections, 0, n as usize * limits::SECTION_BYTES),
+        list,
         n,
     );
-    let k = cases::few(c.symbols);
-    listed::symbols(
-        f,
-        le::part(symbols, 0, k as usize * limits::SYMBOL_BYTES),
-        k,
-    );
+    listed::symbols(f, list, k);
     let e = cases::few(c.externs);
     listed::externs(
         f,

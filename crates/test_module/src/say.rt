@@ -1,6 +1,7 @@
 // Answers on standard output. A word that many lines have is written in one place, since each place that lends one is proved.
 use answers::AddressAnswer;
 use answers::OffsetAnswer;
+use nearest::RoutineAnswer;
 use refusal::Number;
 
 // The end of a line.
@@ -50,6 +51,17 @@ pub fn offset(a: OffsetAnswer) {
     match a {
         OffsetAnswer::Found(rva) => place(rva.0),
         OffsetAnswer::Refused(k) => refused(k),
+    }
+}
+
+// A symbol's number and a distance, or `refused` and the number.
+pub fn routine(a: RoutineAnswer) {
+    match a {
+        RoutineAnswer::Found(r) => {
+            value(r.symbol);
+            value(r.distance);
+        }
+        RoutineAnswer::Refused(k) => refused(k),
     }
 }
 

@@ -9,7 +9,7 @@ const TABLES: u8 = 0;
 
 const PATCH: u8 = 1;
 
-const LAST: u8 = 8;
+const LAST: u8 = 9;
 
 // Up to the first line that is none.
 pub(crate) fn all(
@@ -55,7 +55,7 @@ pub(crate) fn all(
 fn word(line: &[u8]) -> u8 {
     cases::place(
         cases::word(line, 0),
-        b"tables patch symbols symbol-numbers externs extern-numbers laid marks read ",
+        b"tables patch symbols symbol-numbers externs extern-numbers laid marks read routine ",
     )
 }
 
@@ -76,7 +76,7 @@ fn one(
     match k {
         TABLES => tables(f, base, c, sections, symbols, externs, fixups, skips),
         PATCH => patch(line, base, c, image, marks, fixups),
-        _ => ask(k, line, base, c, image, marks, symbols, externs),
+        _ => ask(k, line, base, c, image, marks, sections, symbols, externs),
     }
 }
 
@@ -157,6 +157,7 @@ fn ask(
     c: Counts,
     image: &[u8],
     marks: &[u8],
+    sections: &[u8],
     symbols: &[u8],
     externs: &[u8],
 ) {
@@ -166,9 +167,25 @@ fn ask(
         4..=5 => say::rows(k, externs, cases::few(c.externs)),
         6 => say::laid(image, c.pages),
         7 => say::rows(k, marks, say::words(c.pages)),
-        _ => read(line, base, say::counted(image, c.pages), marks),
+        8 => read(line, base, say::counted(image, c.pages), marks),
+        _ => routine(line, c, sections, symbols),
     }
     cases::end();
+}
+
+// `routine ADDRESS`, asked of the counted parts of the tables.
+fn routine(line: &[u8], c: Counts, sections: &[u8], symbols: &[u8]) {
+    let s = le::part(
+        sections,
+        0,
+        cases::few(c.sections) as usize * limits::SECTION_BYTES,
+    );
+    let y = le::part(
+        symbols,
+        0,
+        cases::few(c.symbols) as usize * limits::SYMBOL_BYTES,
+    );
+    say::routine(module::routine_in(s, y, VA(cases::number_at(line, 1))));
 }
 
 // `read ADDRESS LENGTH`; no read of the input is longer than the buffer.

@@ -6,6 +6,7 @@ use limits::SYMBOL_HOME;
 use limits::SYMBOL_NUMBER;
 use limits::WORD;
 use loading::Load;
+use nearest::RoutineAnswer;
 use patch::Patch;
 use survey::Counts;
 use survey::Survey;
@@ -101,6 +102,16 @@ pub(crate) fn patched(line: &[u8], answer: Patch, image: &[u8], pages: u64) {
         }
     }
     cases::end();
+}
+
+pub(crate) fn routine(answer: RoutineAnswer) {
+    match answer {
+        RoutineAnswer::Refused(n) => cases::refused(n),
+        RoutineAnswer::Found(a) => {
+            cases::part(b" symbol ", a.symbol);
+            cases::part(b" distance ", a.distance);
+        }
+    }
 }
 
 pub(crate) fn crc(s: &[u8]) {
