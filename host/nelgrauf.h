@@ -41,7 +41,7 @@ enum nelgrauf_refusal {
     NELGRAUF_DONE = 0,            /* not refused */
     NELGRAUF_FILE_SIZE = 1,       /* the file has under 20 or over 4,194,304 bytes */
     NELGRAUF_MACHINE = 2,         /* neither i386 nor x64 */
-    NELGRAUF_SECTION_TABLE = 3,   /* over 256 sections, or their table past the file */
+    NELGRAUF_SECTION_TABLE = 3,   /* over 1,024 sections, or their table past the file */
     NELGRAUF_SYMBOL_TABLE = 4,    /* a bad symbol or string table, or over 16,384 symbol records */
     NELGRAUF_SECTION_DATA = 5,    /* a section's address, raw data or relocations are bad, or over 32,768 relocations */
     NELGRAUF_NAME = 6,            /* a bad name */

@@ -254,7 +254,7 @@ static const char *refusal_words(uint64_t code)
     static const char *const words[] = {
         [NELGRAUF_FILE_SIZE] = "the file has under 20 or over 4194304 bytes",
         [NELGRAUF_MACHINE] = "the machine is neither i386 nor x64",
-        [NELGRAUF_SECTION_TABLE] = "over 256 sections, or their table past the file's end",
+        [NELGRAUF_SECTION_TABLE] = "over 1,024 sections, or their table past the file's end",
         [NELGRAUF_SYMBOL_TABLE] = "a bad symbol or string table, or over 16384 symbol records",
         [NELGRAUF_SECTION_DATA] = "a section's address, raw data or relocations are bad, or over 32768 relocations",
         [NELGRAUF_NAME] = "a bad name of a section or symbol",

@@ -24,7 +24,7 @@ static const struct kind {
 } kinds[BUFFERS] = {
     [IMAGE] = { "image", NELGRAUF_PAGE, 4096, 0 },
     [MARKS] = { "marks", 8, 64, 0 },
-    [SECTIONS] = { "sections", sizeof(struct nelgrauf_section), 257, 3 },
+    [SECTIONS] = { "sections", sizeof(struct nelgrauf_section), 1025, 3 },
     [SYMBOLS] = { "symbols", sizeof(struct nelgrauf_symbol), 16384, 1 },
     [EXTERNS] = { "externs", sizeof(struct nelgrauf_extern), 1024, 1 },
     [FIXUPS] = { "fixups", sizeof(struct nelgrauf_fixup), 32768, 1 },

@@ -1,2 +1,3 @@
 pub mod Code
+pub mod Draft
 pub mod Puts

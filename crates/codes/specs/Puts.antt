@@ -3,14 +3,14 @@ use mathlib.Core.Path.{_≡_, refl, sym, ap, _∙_, fun-ext}
 use mathlib.Core.Bool.{Bool, true, false, _&&_, not}
 use mathlib.Core.List.{List}
 use mathlib.Core.Logic.{⊎-elim}
-use Prim.Native.Nat.{ℕ, _+_, _%_, _≤_, _<_}
+use Prim.Native.Nat.{ℕ, _+_, _%_, _≤_}
 use native.Mathlib.Omega.{arith}
 use lib.Dec.{ltb}
 use lib.ListN.{length, getD, replicate, length-replicate, getD-replicate, List·getD-eq-default}
 use borrow.Author.Tests.{ne-eqb, lt-ltb, le-ltb}
 use Rattle.util.specs.Pick.{pick, le-or-lt, and-right}
 use Rattle.util.specs.Prefix.{any-out, length-list, list-at}
-use Rattle.le.specs.Le.{splice, splice-long, splice-above, splice-in}
+use Rattle.le.specs.Le.{splice, splice-long, splice-above, front-at}
 use Rattle.object.specs.declared.Header.{Header}
 use Rattle.object.specs.Section.{loaded}
 use Rattle.object.specs.Symbol.{primary, isSymbol}
@@ -80,13 +80,6 @@ module _ (f : List ℕ) (h : Header) where
   code-puts : (j : ℕ) → isExtern (codeOf f h j) ≡ (primary f h j && putsName f h j)
   code-puts j =
       rw (own-puts (primary f h j) (symbolCode f h j), rule-puts (symbolRule f h j) (namedRecord f h (symbolText f h j)) (someSectionNamed f h (symbolText f h j)) (taken-loaded (symbolText f h j)))
-
--- ---- what is put at the front of a list stands there
-pub front-at : (l vs : List ℕ) (j : ℕ) → j < length vs → j < length l → getD (splice l 0 vs) j 0 ≡ getD vs j 0
-front-at l vs j a b =
-    let o : 0 + j ≡ j = omega arith in
-    let s : getD (splice l 0 vs) (0 + j) 0 ≡ getD vs j 0 = splice-in l 0 vs j a (omega arith) in
-    rw o at s
 
 zeros : (size j : ℕ) → getD {A = ℕ} (replicate size 0) j 0 ≡ 0
 zeros size j =

@@ -1,11 +1,12 @@
 -- 01's table of single facts ("A small object" and below), each over the definitions that the contracts use. What an object can show is shown on
 -- one: computed, or where it is long by the laws of `examples`.
 use mathlib.Core.Path.{_≡_, refl, ap, _∙_}
-use mathlib.Core.Bool.{true}
+use mathlib.Core.Bool.{true, false}
 use mathlib.Core.List.{List, [], _∷_, _++_}
-use Prim.Native.Nat.{ℕ, _+_, _*_}
+use Prim.Native.Nat.{ℕ, _+_, _*_, _≤_}
 use native.Mathlib.Omega.{arith}
 use lib.ListN.{length, getD}
+use borrow.Author.Tests.{le-leb}
 use Rattle.arch.specs.declared.Arch.the-variants.{X64}
 use Rattle.arch.specs.Address.{rva}
 use Rattle.survey.specs.declared.answer.Counts.{Counts}
@@ -33,7 +34,8 @@ use Rattle.util.specs.Prefix.{allTo, anyTo, sumTo, countTo, listTo, list-at}
 use Rattle.util.specs.Fold.{foldRecords, foldSections}
 use Rattle.arch.specs.Machine.{archOf}
 use Rattle.le.specs.Le.{get, le, part}
-use Rattle.object.specs.Format.{headerOf, stringLength}
+use Rattle.object.specs.declared.Header.{Header}
+use Rattle.object.specs.Format.{headerOf, sectionHeaderAt, stringLength}
 use Rattle.kinds.specs.Types.{type32, type64, typeOf}
 use Rattle.object.specs.Section.{fileStart, fileEnd, rangeLength, extended, relocationRecords, relocationCount, relocationStart}
 use Rattle.kinds.specs.Flags.{loadedBy, alignOf, permissionsBy}
@@ -44,7 +46,7 @@ use Rattle.names.specs.Bytes.{run, upToZero, goodSectionName, goodSymbolName, d
 use Rattle.names.specs.Name.{nameBytes, longRun, symbolRun, slashRun, sectionRun, checked, leftFrom, longSpan, spanAt}
 use Rattle.homes.specs.declared.Home.the-variants.{Loaded}
 use Rattle.homes.specs.Home.{firstIn, isHome, homeOf, loadedNamed, homeStart, homeRecord, sectionHome, byNumber, homeRecords}
-use Rattle.bounds.specs.Bounds.{sizeOk, sectionTableOk, stringsOk, symbolTableOk, bytesOk, dataOk, relocationsOk, sectionsOk}
+use Rattle.bounds.specs.Bounds.{sizeOk, machineOk, sectionTableOk, stringsOk, symbolTableOk, bytesOk, dataOk, relocationsOk, sectionsOk}
 use Rattle.codes.specs.Puts.{putsBy, puts}
 use Rattle.externs.specs.Slot.{slotFrom}
 use Rattle.fixups.specs.Lists.{appendStep, fixAtRecord, skipAtRecord}
@@ -165,6 +167,9 @@ pub record Table : Type 0 where
   -- 4,094 section pages are accepted, 4,095 refused: 8
   pub pages-4094 : surveyOf (sized (4096 * 4094) 1) ≡ Accepted (countsWith 4096 2 0 0 0 1 0 0)
   pub pages-4095 : surveyOf (sized (4096 * 4095) 1) ≡ Refused 8
+  -- 1,024 sections whose records lie in the file pass 3, and 1,025 are refused by it, whatever follows (02, N2)
+  pub sections-1024 : (f : List ℕ) (h : Header) → h .sections ≡ 1024 → sectionHeaderAt h 1024 ≤ length f → sectionTableOk f h ≡ true
+  pub sections-1025 : (f : List ℕ) → sizeOk f ≡ true → machineOk (headerOf f) ≡ true → headerOf f .sections ≡ 1025 → surveyOf f ≡ Refused 3
   -- 1,024 names are accepted, 1,025 refused: 9
   pub names-1024 : surveyOf mostNames ≡ Accepted (countsWith 3 2 0 1024 1024 1 1024 1024)
   pub names-1025 : surveyOf (namesObject 1025 1025) ≡ Refused 9
@@ -183,6 +188,18 @@ pub record Table : Type 0 where
   -- a 32-bit fixup 4 bytes before the last mapped end is taken, one 3 bytes before it refused: 11
   pub last-place : surveyOf (smallWith 12284) ≡ Accepted smallCounts
   pub past-the-end : surveyOf (smallWith 12285) ≡ Refused 11
+
+most-sections : (f : List ℕ) (h : Header) → h .sections ≡ 1024 → sectionHeaderAt h 1024 ≤ length f → sectionTableOk f h ≡ true
+unfolding sectionTableOk
+most-sections f h e k = rw (e, le-leb (sectionHeaderAt h 1024) (length f) k)
+
+no-table : (f : List ℕ) (h : Header) → h .sections ≡ 1025 → sectionTableOk f h ≡ false
+unfolding sectionTableOk
+no-table f h e = rw e
+
+more-sections : (f : List ℕ) → sizeOk f ≡ true → machineOk (headerOf f) ≡ true → headerOf f .sections ≡ 1025 → surveyOf f ≡ Refused 3
+unfolding firstFailed pick answerBy
+more-sections f s m e = rw (s, m, no-table f (headerOf f) e)
 
 -- each of these facts holds
 pub table : Table
@@ -210,6 +227,8 @@ table =
       size-4097-code-0 = refl;
       pages-4094 = refl;
       pages-4095 = refl;
+      sections-1024 = most-sections;
+      sections-1025 = more-sections;
       names-1024 = names-accepted 1024 1024 (omega arith) (omega arith) (omega arith) (omega arith);
       names-1025 = names-refused 1025 1025 (omega arith) (omega arith) (omega arith) (omega arith);
       last-slot = most-slot;

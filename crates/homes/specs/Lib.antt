@@ -1,4 +1,5 @@
 pub mod Home
 pub mod FirstLaws
+pub mod Ranked
 pub mod HomeLaws
 pub mod Listed

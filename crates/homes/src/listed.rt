@@ -1,5 +1,5 @@
 // Which symbols are listed, and where.
-use crate::search::home_of_number;
+use crate::kept::home_of_number;
 use arch::Offset;
 use arch::RVA;
 use kinds::Place;

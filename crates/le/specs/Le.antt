@@ -1,5 +1,5 @@
 -- Numbers in a list of bytes, the lowest byte first, and runs of bytes put into a list. A list reads as 0 past its end, and nothing is put there.
-use mathlib.Core.Path.{_≡_, refl, ap, _∙_}
+use mathlib.Core.Path.{_≡_, refl, sym, ap, _∙_}
 use mathlib.Core.List.{List, [], _∷_, _++_}
 use mathlib.Core.Logic.{⊎-elim}
 use Prim.Native.Nat.{ℕ, zero, suc, _+_, _*_, _/_, _%_, _^_, _≤_, _<_}
@@ -61,6 +61,35 @@ splice-in l i (a ∷ vs) zero h k =
 splice-in l i (a ∷ vs) (suc j) h k =
     let e : i + suc j ≡ suc i + j = omega arith in
     rw e (splice-in (set l i a) (suc i) vs j (omega arith) (rw length-set (omega arith)))
+
+-- what is put at the front of a list stands there
+pub front-at : (l vs : List ℕ) (j : ℕ) → j < length vs → j < length l → getD (splice l 0 vs) j 0 ≡ getD vs j 0
+front-at l vs j a b =
+    let o : 0 + j ≡ j = omega arith in
+    let s : getD (splice l 0 vs) (0 + j) 0 ≡ getD vs j 0 = splice-in l 0 vs j a (omega arith) in
+    rw o at s
+
+-- two runs at the front, of one length, that say the same where there is room leave the same list
+pub splice-alike : (l xs ys : List ℕ) → length xs ≡ length ys → ((j : ℕ) → j < length xs → j < length l → getD xs j 0 ≡ getD ys j 0) → splice l 0 xs ≡ splice l 0 ys
+splice-alike l xs ys e same =
+    let a = length-splice l 0 xs in
+    let b = length-splice l 0 ys in
+    ext-getD 0 (splice l 0 xs) (splice l 0 ys) (a ∙ sym b)
+    (λ j q. ⊎-elim (λ r. splice-above l 0 xs j (omega arith) ∙ sym (splice-above l 0 ys j (omega arith)))
+    (λ r. front-at l xs j (omega arith) (omega arith) ∙ same j (omega arith) (omega arith) ∙ sym (front-at l ys j (omega arith) (omega arith)))
+    (le-or-lt (length xs) j))
+
+-- and a run that is put over another of its length is what counts
+pub splice-over : (l xs ys : List ℕ) → length xs ≡ length ys → splice (splice l 0 xs) 0 ys ≡ splice l 0 ys
+splice-over l xs ys e =
+    let a = length-splice l 0 xs in
+    let b = length-splice l 0 ys in
+    let c = length-splice (splice l 0 xs) 0 ys in
+    ext-getD 0 (splice (splice l 0 xs) 0 ys) (splice l 0 ys) (c ∙ a ∙ sym b)
+    (λ j q. ⊎-elim
+    (λ r. splice-above (splice l 0 xs) 0 ys j (omega arith) ∙ splice-above l 0 xs j (omega arith) ∙ sym (splice-above l 0 ys j (omega arith)))
+    (λ r. front-at (splice l 0 xs) ys j (omega arith) (omega arith) ∙ sym (front-at l ys j (omega arith) (omega arith)))
+    (le-or-lt (length ys) j))
 
 pub splice-out : (l : List ℕ) (i : ℕ) (vs : List ℕ) (k : ℕ) → (i ≤ k → k < i + length vs → ⊥) → getD (splice l i vs) k 0 ≡ getD l k 0
 splice-out l i vs k h =

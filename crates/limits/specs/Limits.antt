@@ -7,13 +7,16 @@ MAX-FILE = 4194304
 
 -- refusal 3: the file's section records, loaded or not
 abbrev pub MAX-SECTIONS : ℕ
-MAX-SECTIONS = 256
+MAX-SECTIONS = 1024
 
 -- refusal 4: symbol records, auxiliary ones too
 abbrev pub MAX-SYMBOLS : ℕ
 MAX-SYMBOLS = 16384
 
--- up to so many a small array keeps what they come to
+-- up to so many sections and symbols small arrays keep what they come to
+abbrev pub FEW-SECTIONS : ℕ
+FEW-SECTIONS = 64
+
 abbrev pub FEW-SYMBOLS : ℕ
 FEW-SYMBOLS = 512
 

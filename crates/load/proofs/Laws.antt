@@ -1,20 +1,21 @@
 -- The ways through the code. Assumes nothing.
-use mathlib.Core.Path.{_≡_, ap}
+use mathlib.Core.Path.{_≡_, sym, _∙_}
+use mathlib.Core.Bool.{Bool, true, false}
 use mathlib.Core.List.{List}
-use Prim.Native.Nat.{ℕ, _≤_, _<_}
+use Prim.Native.Nat.{ℕ}
 use lib.ListN.{replicate}
-use Rattle.limits.specs.Limits.{FEW-SYMBOLS, MAX-SYMBOLS}
+use Rattle.limits.specs.Limits.{FEW-SECTIONS, FEW-SYMBOLS, MAX-SECTIONS, MAX-SYMBOLS}
 use Rattle.object.specs.declared.Header.{Header}
 use Rattle.object.specs.Format.{headerOf}
-use Rattle.survey.specs.Surveying.{codeRoom}
-use Rattle.survey.specs.TableLaws.{few-room, many-room}
+use Rattle.survey.specs.Surveying.{fewRecords, Cleared}
+use Rattle.survey.specs.TableLaws.{few-cleared, many-cleared}
 
--- ---- the array for the codes
-module _ (f : List ℕ) (h : Header) (is : h ≡ headerOf f) where
-  pub few-codes : h .symbols ≤ FEW-SYMBOLS → replicate {A = ℕ} FEW-SYMBOLS 0 ≡ replicate (codeRoom (headerOf f)) 0
-  few-codes l = ap (λ (n : ℕ). replicate {A = ℕ} n 0) (few-room (headerOf f) (rw is at l))
+-- ---- the arrays
+module _ (f : List ℕ) (h : Header) (r : Bool) (is : h ≡ headerOf f) (e : r ≡ fewRecords h) where
+  pub few-arrays : r ≡ true → Cleared (headerOf f) (replicate FEW-SECTIONS 0) (replicate FEW-SECTIONS 0) (replicate FEW-SYMBOLS 0)
+  few-arrays t = few-cleared (headerOf f) (rw is at (sym e ∙ t))
 
-  pub many-codes : FEW-SYMBOLS < h .symbols → replicate {A = ℕ} MAX-SYMBOLS 0 ≡ replicate (codeRoom (headerOf f)) 0
-  many-codes l = ap (λ (n : ℕ). replicate {A = ℕ} n 0) (many-room (headerOf f) (rw is at l))
+  pub many-arrays : r ≡ false → Cleared (headerOf f) (replicate MAX-SECTIONS 0) (replicate MAX-SECTIONS 0) (replicate MAX-SYMBOLS 0)
+  many-arrays t = many-cleared (headerOf f) (rw is at (sym e ∙ t))
 
-pub ruleset sizes = (few-codes, many-codes)
+pub ruleset sizes = (few-arrays, many-arrays)

@@ -5,7 +5,7 @@ ghost use Rattle.storage.specs.Storage.{storage};
 ghost use Rattle.loading.specs.Load.{Loads};
 
 // Everything that survey counts, at a base, into lent storage; or a refusal, and no byte has changed.
-// What the symbols come to stands in a small array where they are few.
+// What sections and symbols come to stands in small arrays where they are few.
 pub fn load(
     f: &[u8],
     base: VA,
@@ -24,11 +24,15 @@ pub fn load(
         r ⌝ }
 {
     let h = object::read_header(f);
-    if h.symbols as usize <= limits::FEW_SYMBOLS {
+    if survey::few_records(h) {
+        let mut homes = [0u32; limits::FEW_SECTIONS];
+        let mut starts = [0u32; limits::FEW_SECTIONS];
         let mut codes = [0u16; limits::FEW_SYMBOLS];
         loading::load_with(
             f,
             base,
+            &mut homes,
+            &mut starts,
             &mut codes,
             image,
             marks,
@@ -39,10 +43,14 @@ pub fn load(
             skips,
         )
     } else {
+        let mut homes = [0u32; limits::MAX_SECTIONS];
+        let mut starts = [0u32; limits::MAX_SECTIONS];
         let mut codes = [0u16; limits::MAX_SYMBOLS];
         loading::load_with(
             f,
             base,
+            &mut homes,
+            &mut starts,
             &mut codes,
             image,
             marks,

@@ -8,7 +8,7 @@ use lib.Dec.{eqb, leb}
 use lib.ListN.{length, replicate, length-replicate}
 use lib.Seq.{take-append-seam}
 use borrow.Author.Tests.{le-leb, ne-eqb}
-use Rattle.limits.specs.Limits.{MAX-SECTIONS, MAX-EXTERNS, EXTERN-ROOM}
+use Rattle.limits.specs.Limits.{MAX-EXTERNS, EXTERN-ROOM}
 use Rattle.util.specs.Pick.{pick}
 use Rattle.le.specs.Le.{part, part-front}
 use Rattle.object.specs.declared.Header.{Header}
@@ -16,7 +16,7 @@ use Rattle.object.specs.Format.{headerOf}
 use Rattle.externs.specs.Externs.{externs, slotWords}
 use Rattle.survey.specs.declared.answer.Counts.{Counts}
 use Rattle.survey.specs.Survey.{firstFailed, counts}
-use Rattle.survey.specs.Surveying.{codeRoom}
+use Rattle.survey.specs.Surveying.{Cleared}
 use Rattle.plan.specs.declared.Lengths.{Lengths}
 use Rattle.plan.specs.declared.Plan.{Plan}
 use Rattle.plan.specs.declared.Plan.the-variants as plan
@@ -66,27 +66,27 @@ pub slots-long : {n : ℕ} → (length (replicate {A = ℕ} EXTERN-ROOM 0) ≡ E
 slots-long e = sym (e (length-replicate {A = ℕ} EXTERN-ROOM 0))
 
 -- what the plan gives for arrays of zeros
-module _ (f : List ℕ) (codes₀ : List ℕ) (base : ℕ) (s : Storage) (homes starts codes slots : List ℕ) (p : Plan)
-    (made : Blank (headerOf f) (replicate MAX-SECTIONS 0) (replicate MAX-SECTIONS 0) codes₀ (replicate EXTERN-ROOM 0) → Plans f (headerOf f) base (lengthsOf s) homes starts codes slots p) where
+module _ (f homes₀ starts₀ codes₀ : List ℕ) (base : ℕ) (s : Storage) (homes starts codes slots : List ℕ) (p : Plan)
+    (made : Blank (headerOf f) homes₀ starts₀ codes₀ (replicate EXTERN-ROOM 0) → Plans f (headerOf f) base (lengthsOf s) homes starts codes slots p) where
   abbrev h : Header
   h = headerOf f
 
   abbrev code : ℕ
   code = firstFailed (loadChecks f h base s)
 
-  plans : codes₀ ≡ replicate (codeRoom h) 0 → Plans f h base (lengthsOf s) homes starts codes slots p
-  plans zeros = made (record { no-homes = refl; no-starts = refl; no-codes = zeros; no-slots = refl })
+  plans : Cleared h homes₀ starts₀ codes₀ → Plans f h base (lengthsOf s) homes starts codes slots p
+  plans zeros = made (record { zeros = zeros; no-slots = refl })
 
   no-case : (k n : ℕ) → code ≡ k → k ≡ n → (k ≡ 0 → ⊥) → Loads f base s s (Refused n)
   no-case zero n e q z = absurd (z refl)
   no-case (suc k) n e q z = rw (← q) (refused-is code k (counts f h) (stored f h base s) s e)
 
-  pub load-no : (n : ℕ) → p ≡ plan.Refused n → codes₀ ≡ replicate (codeRoom h) 0 → Loads f base s s (Refused n)
+  pub load-no : (n : ℕ) → p ≡ plan.Refused n → Cleared h homes₀ starts₀ codes₀ → Loads f base s s (Refused n)
   load-no n e zeros =
       let t = plan-says-no code (counts f h) (length (externs f h)) n (sym e ∙ plans zeros .says) in
       no-case code n refl (t .0) (t .1)
 
-  pub load-yes : (c : Counts) (n : ℕ) (after : Storage) → p ≡ Ready c n → (Known f h homes starts codes (part slots 0 n) → after ≡ stored f h base s) → codes₀ ≡ replicate (codeRoom h) 0 → Loads f base s after (Loaded c)
+  pub load-yes : (c : Counts) (n : ℕ) (after : Storage) → p ≡ Ready c n → (Known f h homes starts codes (part slots 0 n) → after ≡ stored f h base s) → Cleared h homes₀ starts₀ codes₀ → Loads f base s after (Loaded c)
   unfolding loadAnswer pick
   load-yes c n after is wrote zeros =
       let t = told f h homes starts codes slots base (lengthsOf s) p (plans zeros) c n is in

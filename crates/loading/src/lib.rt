@@ -1,21 +1,21 @@
-// Plan and writing in one: load, with the array for what the symbols come to lent by the caller.
+// Plan and writing in one: load, with the arrays for what the sections and symbols come to lent by the caller.
 mod answer;
 
 pub use answer::Load;
 use arch::VA;
 use plan::Lengths;
 use plan::Plan;
-ghost use mathlib.Core.Path.{_≡_};
-ghost use lib.ListN.{replicate};
 ghost use Rattle.object.specs.Format.{headerOf};
-ghost use Rattle.survey.specs.Surveying.{codeRoom};
+ghost use Rattle.survey.specs.Surveying.{Cleared};
 ghost use Rattle.storage.specs.Storage.{storage};
 ghost use Rattle.loading.specs.Load.{Loads};
 
-// Everything that survey counts, or a refusal and no byte has changed; `codes` is the caller's, and what is written is told where it held zeros.
+// Everything that survey counts, or a refusal and no byte has changed; `homes`, `starts` and `codes` are the caller's, and what is written is told where they held zeros.
 pub fn load_with(
     f: &[u8],
     base: VA,
+    homes: &mut [u32],
+    starts: &mut [u32],
     codes: &mut [u16],
     image: &mut [u8],
     marks: &mut [u8],
@@ -26,7 +26,7 @@ pub fn load_with(
     skips: &mut [u8],
 ) -> Load
     ensures { λ r.
-        ⌜ (now (codes .entry) ≡ replicate (codeRoom (headerOf (now (f .entry)))) 0
+        ⌜ (Cleared (headerOf (now (f .entry))) (now (homes .entry)) (now (starts .entry)) (now (codes .entry))
         → Loads (now (f .entry)) (base .0)
         (storage (now (image .entry)) (now (marks .entry)) (now (sections .entry)) (now (symbols .entry)) (now (externs .entry)) (now (fixups .entry)) (now (skips .entry)))
         (storage (now (image .exit)) (now (marks .exit)) (now (sections .exit)) (now (symbols .exit)) (now (externs .exit)) (now (fixups .exit)) (now (skips .exit)))
@@ -41,17 +41,15 @@ pub fn load_with(
         fixups: fixups.len(),
         skips: skips.len(),
     };
-    let mut homes = [0u32; limits::MAX_SECTIONS];
-    let mut starts = [0u32; limits::MAX_SECTIONS];
     let mut slots = [0u32; limits::EXTERN_ROOM];
-    match plan::plan_file(f, base, l, &mut homes, &mut starts, codes, &mut slots) {
+    match plan::plan_file(f, base, l, homes, starts, codes, &mut slots) {
         Plan::Refused(n) => Load::Refused(n),
         Plan::Ready(c, n) => {
             storage::write_all(
                 f,
                 base,
-                &homes,
-                &starts,
+                homes,
+                starts,
                 codes,
                 &slots,
                 n,

@@ -1,5 +1,5 @@
 -- The loops over bytes, and the ways through the name readers. Assumes nothing.
-use mathlib.Core.Path.{_≡_, refl, sym, ap}
+use mathlib.Core.Path.{_≡_, refl, sym, ap, _∙_}
 use mathlib.Core.Bool.{Bool, true, false, and-false, _&&_, not}
 use mathlib.Core.List.{List, [], _∷_}
 use mathlib.Core.Logic.{⊎-elim}
@@ -14,17 +14,17 @@ use lib.Seq.{drop-cons}
 use Rattle.util.specs.Pick.{pick, le-or-lt}
 use Rattle.le.specs.Le.{get, part, part-most}
 use Rattle.object.specs.declared.Header.{Header}
-use Rattle.object.specs.Format.{NAME-SIZE, LONG-OFFSET-AT, symbolRecordAt, stringTable, stringLength}
+use Rattle.object.specs.Format.{NAME-SIZE, LONG-OFFSET-AT, sectionHeaderAt, symbolRecordAt, stringTable, stringLength}
 use Rattle.names.specs.declared.Order.{Order}
 use Rattle.names.specs.declared.Order.the-variants.{Less, Equal, Greater}
 use Rattle.names.specs.declared.Span.{Span}
 use Rattle.names.specs.declared.Name.{Name}
 use Rattle.names.specs.declared.Name.the-variants.{Good, Bad}
-use Rattle.names.specs.Bytes.{run, goodSymbolName, goodSectionName, allVisible, allDigits, decimal, decimalTo, compareBytes, sameBytes}
+use Rattle.names.specs.Bytes.{run, goodSymbolName, goodSectionName, allVisible, allDigits, decimal, decimalTo, compareBytes, sameBytes, UNDEF}
 use Rattle.names.specs.declared.Digits.{Digits}
 use Rattle.names.specs.declared.Digits.the-variants as digits
-use Rattle.names.specs.Name.{longRun, symbolRun, SLASH, slashOffset, slashBy, slashRun, sectionRun, checked, nameBytes, leftFrom, longSpan, spanAt, symbolSpan, symbolText, isGood}
-use Rattle.names.specs.NameLaws.{slash-is, text-run}
+use Rattle.names.specs.Name.{longRun, symbolRun, SLASH, slashOffset, slashBy, slashRun, sectionRun, checked, nameBytes, leftFrom, longSpan, spanAt, symbolSpan, noSpan, slashSpan, sectionSpanAt, sectionSpan, spanText, isGood}
+use Rattle.names.specs.NameLaws.{slash-is, undef-front}
 
 left-suc : (i l : ℕ) → i < l → l - i ≡ suc (l - (i + 1))
 left-suc i l h = omega arith
@@ -271,9 +271,6 @@ module _ (m : Name) where
 
 -- ---- a name by its record: where the record starts, the run there, and what is made of it
 module _ (f : List ℕ) (h : Header) (x : Name) (a b : ℕ) where
-  pub section-text-by : {r : List ℕ} → r ≡ nameBytes f x → x ≡ sectionRun f h a → a ≡ b → r ≡ nameBytes f (sectionRun f h b)
-  section-text-by p q e = rw (← e, ← q) p
-
   pub section-name-by : {r : Name} → r ≡ checked goodSectionName f x → x ≡ sectionRun f h a → a ≡ b → r ≡ checked goodSectionName f (sectionRun f h b)
   section-name-by p q e = rw (← e, ← q) p
 
@@ -310,7 +307,31 @@ module _ (f : List ℕ) (h : Header) where
     unfolding spanAt pick
     span-short z = rw (← is, ← read, z)
 
-  pub symbol-text-by : (x : Span) (j n : ℕ) {r : List ℕ} → r ≡ part f (x .at) n → n ≡ run f (x .at) (x .most) → x ≡ symbolSpan f h j → r ≡ symbolText f h j
-  symbol-text-by x j n p q e = rw (← e, ← text-run f (x .at) (x .most), ← q) p
+  module _ (d : Digits) where
+    pub slash-inside : (o l : ℕ) (r : Span) → d ≡ digits.Offset o → l ≡ stringLength f h → o < l → r ≡ longSpan f h o → r ≡ slashSpan f h d
+    unfolding slashSpan pick
+    slash-inside o l r e q k p = rw (e, lt-ltb o (stringLength f h) (rw q at k)) p
+
+    pub slash-outside : (o l : ℕ) (r : Span) → d ≡ digits.Offset o → l ≡ stringLength f h → l ≤ o → r ≡ noSpan → r ≡ slashSpan f h d
+    unfolding slashSpan pick
+    slash-outside o l r e q k p = rw (e, le-ltb o (stringLength f h) (rw q at k)) p
+
+    pub slash-none : (r : Span) → d ≡ digits.Bad → r ≡ noSpan → r ≡ slashSpan f h d
+    unfolding slashSpan
+    slash-none r e p = rw e p
+
+  module _ (at i : ℕ) (is : at ≡ sectionHeaderAt h i) (b : ℕ) (read : b ≡ getD f at 0) where
+    pub span-slash : (r : Span) (d : Digits) → eqb b SLASH ≡ true → d ≡ slashOffset f at → r ≡ slashSpan f h d → r ≡ sectionSpan f h i
+    unfolding sectionSpanAt pick
+    span-slash r d z q p = rw (← is, ← read, z, ← q) p
+
+    pub span-field : eqb b SLASH ≡ false → _≡_ {A = Span} (record { at = at; most = NAME-SIZE }) (sectionSpan f h i)
+    unfolding sectionSpanAt pick
+    span-field z = rw (← is, ← read, z)
+
+pub undef-is : (f : List ℕ) (s : Span) (m n : ℕ) (t : List ℕ) {r : Bool} → m ≡ min (s .most) 6 → n ≡ run f (s .at) m → t ≡ part f (s .at) n → r ≡ sameBytes t UNDEF → r ≡ sameBytes (spanText f s) UNDEF
+undef-is f s m n t a b c d = rw (c, b, a) at d ∙ undef-front f (s .at) (s .most)
+
+pub ruleset section-spans = (slash-inside, slash-outside, slash-none, span-slash, span-field)
 
 pub ruleset spans = (long-span-is, span-long, span-short)

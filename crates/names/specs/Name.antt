@@ -94,10 +94,7 @@ sectionName f h i = sectionNameAt f h (sectionHeaderAt h i)
 abbrev pub symbolName : List ℕ → Header → ℕ → Name
 symbolName f h j = symbolNameAt f h (symbolRecordAt h j)
 
--- ---- the bytes where a name stands, whether they obey the rule or not: what names are compared by once 6 has passed
-abbrev pub sectionText : List ℕ → Header → ℕ → List ℕ
-sectionText f h i = nameBytes f (sectionRun f h (sectionHeaderAt h i))
-
+-- ---- where a name stands and the most bytes that it may take, whether they obey the rule or not: what names are compared by once 6 has passed
 -- what a string table has from an offset of at least 4 on; below 4 it has none
 unfoldable pub leftFrom : ℕ → ℕ → ℕ
 leftFrom length offset = pick (leb LENGTH-SIZE offset) (length - offset) 0
@@ -114,9 +111,30 @@ spanAt f h at = pick (eqb (get 4 f at) 0) (longSpan f h (get 4 f (at + LONG-OFFS
 abbrev pub symbolSpan : List ℕ → Header → ℕ → Span
 symbolSpan f h j = spanAt f h (symbolRecordAt h j)
 
+-- no bytes
+abbrev pub noSpan : Span
+noSpan = record { at = 0; most = 0 }
+
+-- by the digits behind a slash: in the string table, if they lead into it
+unfoldable pub slashSpan : List ℕ → Header → Digits → Span
+slashSpan f h (digits.Offset o) = pick (ltb o (stringLength f h)) (longSpan f h o) noSpan
+slashSpan f h digits.Bad = noSpan
+
+-- a section's: by the field's first byte
+unfoldable pub sectionSpanAt : List ℕ → Header → ℕ → Span
+sectionSpanAt f h at = pick (eqb (getD f at 0) SLASH) (slashSpan f h (slashOffset f at)) (record { at = at; most = NAME-SIZE })
+
+-- of section i
+abbrev pub sectionSpan : List ℕ → Header → ℕ → Span
+sectionSpan f h i = sectionSpanAt f h (sectionHeaderAt h i)
+
 -- up to the first zero there, or the span's end
 abbrev pub spanText : List ℕ → Span → List ℕ
 spanText f s = upToZero (part f (s .at) (s .most))
+
+-- the bytes of section i's name, which it is looked for by
+abbrev pub sectionText : List ℕ → Header → ℕ → List ℕ
+sectionText f h i = spanText f (sectionSpan f h i)
 
 -- the bytes of symbol j's name, which externs are ordered and found by
 abbrev pub symbolText : List ℕ → Header → ℕ → List ℕ

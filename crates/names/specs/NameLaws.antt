@@ -1,16 +1,17 @@
 -- What a good name is: only bytes that a name may have, and an end where one is due (01, "Records").
 -- A byte past the file reads as 0; the survey's refusals 3 and 4 keep every field and the string table within it.
-use mathlib.Core.Path.{_≡_, refl, sym, ap}
+use mathlib.Core.Path.{_≡_, refl, sym, ap, _∙_}
 use mathlib.Core.Bool.{Bool, true, false, _&&_, not}
 use mathlib.Core.List.{List, [], _∷_}
 use mathlib.Core.Logic.{_⊎_, inl, inr, ⊎-elim}
-use Prim.Native.Nat.{ℕ, zero, suc, _+_, _-_, _≤_, _<_}
+use Prim.Native.Nat.{ℕ, zero, suc, _+_, _-_, _≤_, _<_, min}
+use native.Mathlib.Nat.{not-suc-le-zero}
 use native.Mathlib.Omega.{arith}
 use lib.Dec.{ltb, leb, eqb}
-use lib.ListN.{length, getD, drop, drop-of-length-le, List·getD-eq-default}
+use lib.ListN.{length, getD, take, drop, drop-of-length-le, List·getD-eq-default}
 use lib.Seq.{drop-cons, take-nil}
 use native.Mathlib.Numerals.{add-one}
-use borrow.Author.Tests.{leb-true, ltb-true, eqb-true, eqb-false, eq-eqb, not-true}
+use borrow.Author.Tests.{leb-true, ltb-true, lt-ltb, eqb-true, eqb-false, eq-eqb, not-true}
 use Rattle.util.specs.Pick.{pick, yes-no, le-or-lt, and-left, and-right}
 use Rattle.util.specs.Prefix.{all-at}
 use Rattle.le.specs.Le.{get, part, IsBytes, length-part, part-none}
@@ -18,10 +19,10 @@ use Rattle.object.specs.declared.Header.{Header}
 use Rattle.object.specs.Format.{NAME-SIZE, LONG-OFFSET-AT, sectionHeaderAt, symbolRecordAt, stringTable, stringLength}
 use Rattle.names.specs.declared.Name.{Name}
 use Rattle.names.specs.declared.Name.the-variants.{Good, Bad}
-use Rattle.names.specs.Bytes.{run, upToZero, visible, allVisible, goodSectionName, goodSymbolName, allDigits, decimal}
+use Rattle.names.specs.Bytes.{run, upToZero, visible, allVisible, goodSectionName, goodSymbolName, allDigits, decimal, sameBytes, UNDEF}
 use Rattle.names.specs.declared.Digits.{Digits}
 use Rattle.names.specs.declared.Digits.the-variants as digits
-use Rattle.names.specs.Name.{nameBytes, shortRun, longRun, symbolRun, slashRun, slashOffset, slashBy, slashDigits, sectionRun, checked, sectionNameAt, symbolNameAt, sectionName, symbolName, SLASH, leftFrom, longSpan, spanAt, spanText, symbolText, nameRefusal, digitsRefusal}
+use Rattle.names.specs.Name.{nameBytes, shortRun, longRun, symbolRun, slashRun, slashOffset, slashBy, slashDigits, sectionRun, checked, sectionNameAt, symbolNameAt, sectionName, symbolName, SLASH, leftFrom, longSpan, spanAt, noSpan, slashSpan, sectionSpanAt, spanText, symbolText, sectionText, nameRefusal, digitsRefusal}
 
 -- ---- where a run ends
 -- one more byte: a zero ends the run, any other is passed
@@ -364,3 +365,57 @@ pub symbol-name-text : (f : List ℕ) (h : Header) (j at n : ℕ) → symbolName
 unfolding nameBytes
 symbol-name-text f h j at n e =
     rw e (run-text f h at n (symbolRecordAt h j) (checked-is goodSymbolName f (symbolRun f h (symbolRecordAt h j)) at n e))
+
+-- ---- the same of a section's
+module _ (f : List ℕ) (h : Header) (at n : ℕ) where
+  tail-text : (offset : ℕ) → longRun f h offset ≡ Good at n → spanText f (pick (ltb offset (stringLength f h)) (longSpan f h offset) noSpan) ≡ part f at n
+  unfolding longRun pick
+  tail-text offset e =
+      let left = stringLength f h - offset in
+      let r = run f (stringTable h + offset) left in
+      let t : leb 4 offset && ltb r left ≡ true = taken (leb 4 offset && ltb r left) (Good (stringTable h + offset) r) at n e in
+      let k : r < left = ltb-true r left (and-right (leb 4 offset) (ltb r left) t) in
+      rw (lt-ltb offset (stringLength f h) (omega arith)) (long-text f h at n offset e)
+
+  slash-text : (d : Digits) → slashBy f h d ≡ Good at n → spanText f (slashSpan f h d) ≡ part f at n
+  unfolding slashBy slashSpan
+  slash-text (digits.Offset o) e = tail-text o e
+  slash-text digits.Bad e = cc
+
+  section-run-text : (field : ℕ) → sectionRun f h field ≡ Good at n → spanText f (sectionSpanAt f h field) ≡ part f at n
+  unfolding sectionRun sectionSpanAt pick
+  section-run-text field e = by-slash (eqb (getD f field 0) SLASH) e
+    where
+      by-slash : (b : Bool) → pick b (slashRun f h field) (shortRun f field) ≡ Good at n
+          → spanText f (pick b (slashSpan f h (slashOffset f field)) (record { at = field; most = NAME-SIZE })) ≡ part f at n
+      by-slash true q = slash-text (slashOffset f field) (sym (slash-is f h field) ∙ q)
+      by-slash false q =
+          let a : field ≡ at = cc in
+          let r : run f field NAME-SIZE ≡ n = cc in
+          rw (← a, ← r) (sym (text-run f field NAME-SIZE))
+
+-- wherever a section's name is good, it is the bytes that it is looked for by
+pub section-name-text : (f : List ℕ) (h : Header) (i at n : ℕ) → sectionName f h i ≡ Good at n → sectionText f h i ≡ nameBytes f (sectionName f h i)
+unfolding nameBytes
+section-name-text f h i at n e =
+    rw e (section-run-text f h at n (sectionHeaderAt h i) (checked-is goodSectionName f (sectionRun f h (sectionHeaderAt h i)) at n e))
+
+-- ---- a text is one that is shorter than k bytes if its first k bytes are
+same-next : (x : ℕ) (a b y : List ℕ) (t : Bool) → ((w : ℕ) (z : List ℕ) → y ≡ w ∷ z → sameBytes a z ≡ sameBytes b z) → sameBytes (pick t [] (x ∷ a)) y ≡ sameBytes (pick t [] (x ∷ b)) y
+unfolding sameBytes pick
+same-next x a b y true rest = refl
+same-next x a b [] false rest = refl
+same-next x a b (w ∷ z) false rest = ap (λ (c : Bool). eqb x w && c) (rest w z refl)
+
+same-front : (d y : List ℕ) (m k : ℕ) → length y < k → sameBytes (upToZero (take (min m k) d)) y ≡ sameBytes (upToZero (take m d)) y
+unfolding upToZero
+same-front [] y m k l = rw (take-nil (min m k), take-nil m)
+same-front (x ∷ d) y zero k l = let e : min 0 k ≡ 0 = omega arith in rw e
+same-front (x ∷ d) y (suc m) zero l = absurd (not-suc-le-zero l)
+same-front (x ∷ d) y (suc m) (suc k) l =
+    let e : min (suc m) (suc k) ≡ suc (min m k) = omega arith in
+    rw e (same-next x (upToZero (take (min m k) d)) (upToZero (take m d)) y (eqb x 0) (λ w z q. same-front d z m k (let n : length y ≡ suc (length z) = ap length q in omega arith)))
+
+pub undef-front : (f : List ℕ) (at m : ℕ) → sameBytes (part f at (run f at (min m 6))) UNDEF ≡ sameBytes (upToZero (part f at m)) UNDEF
+unfolding part
+undef-front f at m = ap (λ (l : List ℕ). sameBytes l UNDEF) (text-run f at (min m 6)) ∙ same-front (drop at f) UNDEF m 6 (omega arith)

@@ -4,15 +4,15 @@ mod spelling;
 
 pub use place::SLASH;
 pub use place::is_good;
+pub use place::is_undef_at;
 pub use place::name_bytes;
 pub use place::name_length;
 pub use place::name_start;
 pub use place::section_name;
-pub use place::section_text;
+pub use place::section_span;
 pub use place::slash_offset;
 pub use place::symbol_name;
 pub use place::symbol_span;
-pub use place::symbol_text;
 pub use spelling::compare;
 pub use spelling::good_section_name;
 pub use spelling::good_symbol_name;

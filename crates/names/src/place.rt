@@ -6,12 +6,13 @@ use crate::spelling::all_digits;
 use crate::spelling::decimal;
 use crate::spelling::good_section_name;
 use crate::spelling::good_symbol_name;
+use crate::spelling::is_undef;
 use crate::spelling::run;
 use object::Header;
 ghost use mathlib.Core.Path.{_≡_};
-ghost use Prim.Native.Nat.{_<_, _^_};
+ghost use Prim.Native.Nat.{_<_, _^_, min};
 ghost use Rattle.object.specs.Format.{sectionHeaderAt};
-ghost use Rattle.names.specs.Bytes.{goodSectionName, goodSymbolName};
+ghost use Rattle.names.specs.Bytes.{goodSectionName, goodSymbolName, sameBytes, UNDEF};
 ghost use Rattle.names.specs.Name.{
   longRun,
   symbolRun,
@@ -25,15 +26,20 @@ ghost use Rattle.names.specs.Name.{
   nameStart,
   nameLength,
   isGood,
-  sectionText,
+  noSpan,
+  slashSpan,
+  sectionSpan,
+  spanText,
   leftFrom,
   longSpan,
   symbolSpan,
-  symbolText,
 };
 
 // What a section's name begins with that stands in the string table.
 pub const SLASH: u8 = 0x2F;
+
+// The bytes of UNDEF's name, and one more.
+const UNDEF_ROOM: usize = 6;
 
 // The part of the string table at `offset`, up to a zero that lies within the table.
 fn long_run(f: &[u8], h: Header, offset: u64) -> Name
@@ -202,13 +208,6 @@ pub fn is_good(name: Name) -> bool
     }
 }
 
-// The bytes where a section's name stands, and a symbol's, whether they obey the rule or not.
-pub fn section_text(f: &[u8], h: Header, i: u32) -> &[u8]
-    ensures { λ r. ⌜ now r ≡ sectionText (now (f .entry)) h i ⌝ }
-{
-    name_bytes(f, section_run(f, h, object::section_header_at(h, i)))
-}
-
 // What a table of `length` bytes has from `offset` on, behind its length field.
 fn left_from(length: u32, offset: u32) -> usize
     ensures { λ r. ⌜ r ≡ leftFrom length offset ⌝ }
@@ -249,10 +248,55 @@ pub fn symbol_span(f: &[u8], h: Header, j: u32) -> Span
     }
 }
 
-// Of symbol j.
-pub fn symbol_text(f: &[u8], h: Header, j: u32) -> &[u8]
-    ensures { λ r. ⌜ now r ≡ symbolText (now (f .entry)) h j ⌝ }
+fn least(a: usize, b: usize) -> usize
+    ensures { λ r. ⌜ r ≡ min a b ⌝ }
 {
-    let span = symbol_span(f, h, j);
-    le::part(f, span.at, run(f, span.at, span.most))
+    if a < b { a } else { b }
+}
+
+// No bytes.
+fn no_span() -> Span
+    ensures { λ r. ⌜ r ≡ noSpan ⌝ }
+{
+    Span { at: 0, most: 0 }
+}
+
+// By the digits behind a slash.
+fn slash_span(f: &[u8], h: Header, digits: Digits) -> Span
+    ensures { λ r. ⌜ r ≡ slashSpan (now (f .entry)) h digits ⌝ }
+{
+    match digits {
+        Digits::Offset(o) => {
+            if o < object::string_length(f, h) as u64 {
+                long_span(f, h, o as u32)
+            } else {
+                no_span()
+            }
+        }
+        Digits::Bad => no_span(),
+    }
+}
+
+// Where section i's name stands.
+pub fn section_span(f: &[u8], h: Header, i: u32) -> Span
+    ensures { λ r. ⌜ r ≡ sectionSpan (now (f .entry)) h i ⌝ }
+{
+    let at = object::section_header_at(h, i);
+    let slash = le::byte_at(f, at) == SLASH;
+    if slash {
+        slash_span(f, h, offset_at(f, at))
+    } else {
+        Span {
+            at,
+            most: object::NAME_SIZE,
+        }
+    }
+}
+
+// Of a name that stands there: the first bytes tell whether it is UNDEF.
+pub fn is_undef_at(f: &[u8], s: Span) -> bool
+    ensures { λ r. ⌜ r ≡ sameBytes (spanText (now (f .entry)) s) UNDEF ⌝ }
+{
+    let most = least(s.most, UNDEF_ROOM);
+    is_undef(le::part(f, s.at, run(f, s.at, most)))
 }

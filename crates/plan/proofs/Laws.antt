@@ -7,9 +7,9 @@ use Prim.Native.Nat.{ℕ, zero, suc, _+_, _-_, _*_, _/_, _≤_, _<_}
 use native.Mathlib.Omega.{arith}
 use native.Mathlib.Nat.{mul-comm, suc-mul, mul-le-mul-left, div-mul-le-self, lt-div-mul-add}
 use lib.Dec.{eqb, leb}
-use lib.ListN.{length, replicate, length-take}
+use lib.ListN.{length, length-take, length-replicate}
 use borrow.Author.Tests.{le-leb, lt-leb, ne-eqb, leb-true}
-use Rattle.limits.specs.Limits.{MAX-PAGES, MAX-EXTERNS}
+use Rattle.limits.specs.Limits.{MAX-SECTIONS, MAX-PAGES, MAX-EXTERNS}
 use Rattle.limits.specs.Records.{SECTION-BYTES, SYMBOL-BYTES, EXTERN-BYTES, FIXUP-BYTES, SKIP-BYTES}
 use Rattle.refusal.specs.Refusal.{PAGES, EXTERNS, TARGET, PLACE, BASE, STORAGE}
 use Rattle.util.specs.Pick.{pick, le-or-lt, leb-same}
@@ -38,8 +38,8 @@ use Rattle.survey.specs.declared.answer.Counts.{Counts}
 use Rattle.survey.specs.declared.answer.Survey.{Survey}
 use Rattle.survey.specs.declared.answer.Survey.the-variants as survey
 use Rattle.survey.specs.Survey.{Check, check, firstFailed, earlyChecks, pageChecks, externChecks, targetChecks, counts, tally, tallyBy, answerBy}
-use Rattle.survey.specs.Surveying.{Fits, behindPages, plannedBy, namesIn, codeRoom, homeWords, startWords, codeWords}
-use Rattle.survey.specs.TableLaws.{homes-whole, starts-front, names-whole, targets-whole}
+use Rattle.survey.specs.Surveying.{Fits, behindPages, plannedBy, namesIn, sectionRoom, homeWords, startWords, codeWords, Cleared}
+use Rattle.survey.specs.TableLaws.{sections-room, homes-whole, starts-front, names-whole, targets-whole}
 use Rattle.survey.specs.SurveyLaws.{check-holds, checks-hold, failed-first, Early, Ordered, early, early-rest, with-pages, records-rest, fits-is}
 use Rattle.plan.specs.declared.Lengths.{Lengths}
 use Rattle.plan.specs.declared.Plan.{Plan}
@@ -253,14 +253,16 @@ module _ (f : List ℕ) (h : Header) (base : ℕ) (l : Lengths) (code : ℕ) (ho
   unfolding firstFailed pick
   whole-is a o = rw a (records-rest f h behind o)
 
-  pub plans-yes : (homes starts codes codes′ slots : List ℕ) (x : Plan) (b : Bool) (u : RVA) → code ≡ 0 → b ≡ leb (pagesTo (u .0)) MAX-PAGES → b ≡ true → u ≡ rva (undefStart f h) → homes ≡ splice homes₀ 0 (homesTo f h (h .sections)) → starts ≡ splice starts₀ 0 (startsTo f h (h .sections))
-      → codes ≡ splice codes₀ 0 (codesTo f h (h .symbols)) → PlannedIn f h homes starts codes l codes′ slots x → Blank (headerOf f) homes₀ starts₀ codes₀ slots₀ → Plans f (headerOf f) base l homes starts codes′ slots x
+  pub plans-yes : (homes starts codes codes′ slots : List ℕ) (x : Plan) (b : Bool) (u : RVA) → code ≡ 0 → b ≡ leb (pagesTo (u .0)) MAX-PAGES → b ≡ true → u ≡ rva (undefStart f h) → (h .sections ≤ length homes₀ → homes ≡ splice homes₀ 0 (homesTo f h (h .sections))) → starts ≡ splice starts₀ 0 (startsTo f h (h .sections))
+      → (h .sections ≤ MAX-SECTIONS → codes ≡ splice codes₀ 0 (codesTo f h (h .symbols))) → PlannedIn f h homes starts codes l codes′ slots x → Blank (headerOf f) homes₀ starts₀ codes₀ slots₀ → Plans f (headerOf f) base l homes starts codes′ slots x
   plans-yes homes starts codes codes′ slots x b u z t y start e d w p blank =
       let o = with-pages f h (seven f h base code is z) (sym (pages-are f h b u t start) ∙ y) in
-      let a : homes ≡ homeWords f h = rw (blank .no-homes) at e in
-      let b′ : starts ≡ startWords f h = rw (blank .no-starts) at d in
-      let v : codes₀ ≡ replicate (codeRoom h) 0 = rw (← head) at (blank .no-codes) in
-      let c : codes ≡ codeWords f h = rw v at w in
+      let fits = fits-is f h head o in
+      let clear : Cleared h homes₀ starts₀ codes₀ = rw (← head) at (blank .zeros) in
+      let room : h .sections ≤ length homes₀ = rw (clear .no-homes, length-replicate {A = ℕ} (sectionRoom h) 0) (sections-room h (fits .sections)) in
+      let a : homes ≡ homeWords f h = rw (clear .no-homes) at (e room) in
+      let b′ : starts ≡ startWords f h = rw (clear .no-starts) at d in
+      let c : codes ≡ codeWords f h = rw (clear .no-codes) at (w (fits .sections)) in
       let q : Plans f h base l homes starts codes′ slots x =
-      rw (a, b′) (whole-yes o (fits-is f h head o) codes′ slots x (rw (a, b′, c) at p) (whole-is (allowed f h base code is z) o)) in
+      rw (a, b′) (whole-yes o fits codes′ slots x (rw (a, b′, c) at p) (whole-is (allowed f h base code is z) o)) in
       rw (← head) q

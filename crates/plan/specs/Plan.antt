@@ -20,7 +20,7 @@ use Rattle.externs.specs.Externs.{externs, slotWords}
 use Rattle.targets.specs.Target.{targets}
 use Rattle.targets.specs.Table.{targetIn}
 use Rattle.survey.specs.declared.answer.Counts.{Counts}
-use Rattle.survey.specs.Surveying.{codeRoom}
+use Rattle.survey.specs.Surveying.{Cleared}
 use Rattle.survey.specs.Survey.{Check, check, firstFailed, checks, counts}
 use Rattle.plan.specs.declared.Lengths.{Lengths}
 use Rattle.plan.specs.declared.Plan.{Plan}
@@ -56,11 +56,9 @@ planChecks f h base l = check (baseOk base) BASE ∷ (checks f h ++ roomCheck (c
 unfoldable pub planBy : ℕ → Counts → ℕ → Plan
 planBy code c n = pick (eqb code 0) (Ready c n) (Refused code)
 
--- arrays of zeros, with the room that the file's symbols ask for
+-- arrays of zeros, with the room that the file's records ask for
 pub record Blank (h : Header) (homes starts codes slots : List ℕ) : Type 0 where
-  pub no-homes : homes ≡ replicate MAX-SECTIONS 0
-  pub no-starts : starts ≡ replicate MAX-SECTIONS 0
-  pub no-codes : codes ≡ replicate (codeRoom h) 0
+  pub zeros : Cleared h homes starts codes
   pub no-slots : slots ≡ replicate EXTERN-ROOM 0
 
 -- arrays that say what the rules do, and the limits

@@ -143,7 +143,7 @@ pub fn plan_file(
     if code == 0 {
         let undef = layout::fill_starts(f, h, starts);
         if checks::pages_fit(undef) {
-            homes::fill_homes(f, h, homes);
+            home_search::fill_homes(f, h, homes);
             codes::fill_codes(f, h, codes);
             plan_names(f, h, l, homes, starts, undef, codes, slots)
         } else {

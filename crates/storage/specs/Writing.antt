@@ -2,12 +2,9 @@
 use mathlib.Core.Path.{_≡_}
 use mathlib.Core.List.{List}
 use Prim.Native.Nat.{ℕ}
-use lib.ListN.{replicate}
-use Rattle.limits.specs.Limits.{MAX-SECTIONS}
-use Rattle.le.specs.Le.{splice, part}
+use Rattle.le.specs.Le.{splice}
 use Rattle.arch.specs.declared.Offset.{Offset}
 use Rattle.object.specs.declared.Header.{Header}
-use Rattle.homes.specs.Home.{homeRecords}
 use Rattle.tables.specs.Sections.{sectionTable}
 use Rattle.symbol_table.specs.Symbols.{symbolTable}
 use Rattle.tables.specs.Externs.{externTable}
@@ -24,7 +21,3 @@ pub record LayoutIs (f : List ℕ) (h : Header) (base : ℕ) (starts : List ℕ)
 pub record NamesAre (f : List ℕ) (h : Header) (base : ℕ) (home : ℕ → Offset) (records : List ℕ) (undef n : ℕ) (slots y y′ e e′ : List ℕ) : Type 0 where
   pub symbols : y′ ≡ splice y 0 (symbolTable f h base home records)
   pub externs : e′ ≡ splice e 0 (externTable f h base undef slots n)
-
--- the homes' records as an array of MAX-SECTIONS holds them
-abbrev pub heldRecords : List ℕ → Header → List ℕ
-heldRecords f h = part (splice (replicate MAX-SECTIONS 0) 0 (homeRecords f h (h .sections))) 0 (h .sections)

@@ -4,11 +4,13 @@ use arch::RVA;
 use arch::VA;
 use object::Header;
 ghost use mathlib.Core.Path.{_≡_};
+ghost use Prim.Native.Nat.{_≤_};
+ghost use Rattle.limits.specs.Limits.{FEW-SECTIONS, MAX-SECTIONS};
 ghost use Rattle.le.specs.Le.{part};
 ghost use Rattle.object.specs.Format.{headerOf};
-ghost use Rattle.homes.specs.Home.{homeIn};
+ghost use Rattle.homes.specs.Home.{homeRecords, homeIn};
 ghost use Rattle.storage.specs.Storage.{storage, stored, Known};
-ghost use Rattle.storage.specs.Writing.{LayoutIs, NamesAre, heldRecords};
+ghost use Rattle.storage.specs.Writing.{LayoutIs, NamesAre};
 
 // The section table, the image and its marks.
 fn write_layout(
@@ -52,8 +54,8 @@ fn write_listed(
     tables::write_externs(f, h, base, undef, slots, n, externs);
 }
 
-// The tables of symbols and of extern names; the homes' records are filled once.
-fn write_names(
+// The tables of symbols and of extern names; the homes' records are filled once, those of few sections into a small array.
+fn write_few(
     f: &[u8],
     h: Header,
     base: VA,
@@ -64,12 +66,13 @@ fn write_names(
     symbols: &mut [u8],
     externs: &mut [u8],
 )
+    requires { ⌜ h .sections ≤ FEW-SECTIONS ⌝ }
     ensures { λ _.
-        ⌜ NamesAre (now (f .entry)) h (base .0) (homeIn (now (homes .entry))) (heldRecords (now (f .entry)) h) (undef .0) n (now (slots .entry))
+        ⌜ NamesAre (now (f .entry)) h (base .0) (homeIn (now (homes .entry))) (homeRecords (now (f .entry)) h (h .sections)) (undef .0) n (now (slots .entry))
         (now (symbols .entry)) (now (symbols .exit)) (now (externs .entry)) (now (externs .exit)) ⌝ }
 {
-    let mut records = [0u32; limits::MAX_SECTIONS];
-    homes::fill_records(f, h, &mut records);
+    let mut records = [0u32; limits::FEW_SECTIONS];
+    home_search::fill_records(f, h, &mut records);
     write_listed(
         f,
         h,
@@ -82,6 +85,63 @@ fn write_names(
         symbols,
         externs,
     );
+}
+
+// Those of more into a large one.
+fn write_many(
+    f: &[u8],
+    h: Header,
+    base: VA,
+    homes: &[u32],
+    undef: RVA,
+    n: u32,
+    slots: &[u32],
+    symbols: &mut [u8],
+    externs: &mut [u8],
+)
+    requires { ⌜ h .sections ≤ MAX-SECTIONS ⌝ }
+    ensures { λ _.
+        ⌜ NamesAre (now (f .entry)) h (base .0) (homeIn (now (homes .entry))) (homeRecords (now (f .entry)) h (h .sections)) (undef .0) n (now (slots .entry))
+        (now (symbols .entry)) (now (symbols .exit)) (now (externs .entry)) (now (externs .exit)) ⌝ }
+{
+    let mut records = [0u32; limits::MAX_SECTIONS];
+    home_search::fill_records(f, h, &mut records);
+    write_listed(
+        f,
+        h,
+        base,
+        homes,
+        le::words(&records, h.sections as usize),
+        undef,
+        n,
+        slots,
+        symbols,
+        externs,
+    );
+}
+
+fn write_names(
+    f: &[u8],
+    h: Header,
+    base: VA,
+    homes: &[u32],
+    undef: RVA,
+    n: u32,
+    slots: &[u32],
+    symbols: &mut [u8],
+    externs: &mut [u8],
+)
+    ensures { λ _.
+        ⌜ (h .sections ≤ MAX-SECTIONS
+        → NamesAre (now (f .entry)) h (base .0) (homeIn (now (homes .entry))) (homeRecords (now (f .entry)) h (h .sections)) (undef .0) n (now (slots .entry))
+        (now (symbols .entry)) (now (symbols .exit)) (now (externs .entry)) (now (externs .exit))) ⌝ }
+{
+    let sections = h.sections as usize;
+    if sections <= limits::FEW_SECTIONS {
+        write_few(f, h, base, homes, undef, n, slots, symbols, externs);
+    } else if sections <= limits::MAX_SECTIONS {
+        write_many(f, h, base, homes, undef, n, slots, symbols, externs);
+    }
 }
 
 // Everything that is counted, into buffers that have room for it; told where homes, starts, codes and the first n slots say what the rules do.

@@ -1,16 +1,16 @@
 -- The ways through the code. Assumes nothing.
 use mathlib.Core.Path.{_≡_, refl, sym, ap, _∙_}
-use mathlib.Core.Bool.{Bool, true, false, not}
+use mathlib.Core.Bool.{Bool, true, false, not, _&&_}
 use mathlib.Core.List.{List, [], _∷_, _++_}
 use mathlib.Core.Logic.{⊎-elim}
 use Prim.Native.Nat.{ℕ, zero, suc, _+_, _-_, _≤_, _%_, _^_}
 use native.Mathlib.Omega.{arith}
 use lib.Dec.{eqb, leb}
-use lib.ListN.{length, replicate}
+use lib.ListN.{length, length-replicate}
 use borrow.Author.Tests.{not-true, not-false}
-use Rattle.limits.specs.Limits.{MAX-PAGES, MAX-EXTERNS}
+use Rattle.limits.specs.Limits.{MAX-SECTIONS, FEW-SECTIONS, FEW-SYMBOLS, MAX-PAGES, MAX-EXTERNS}
 use Rattle.refusal.specs.Refusal.{PAGES, EXTERNS, TARGET, PLACE}
-use Rattle.util.specs.Pick.{pick, yes-no}
+use Rattle.util.specs.Pick.{pick, yes-no, flag-yes, flag-no}
 use Rattle.le.specs.Le.{splice}
 use Rattle.codes.specs.Code.{codesTo}
 use Rattle.arch.specs.declared.Arch.{Arch}
@@ -24,8 +24,8 @@ use Rattle.checks.specs.CheckLaws.{pages-are, pages-few}
 use Rattle.object.specs.declared.Header.{Header}
 use Rattle.object.specs.Format.{headerOf}
 use Rattle.object.specs.Section.{relocationCount}
-use Rattle.layout.specs.Layout.{undefStart, pagesTo, mappedPages, tableRecords}
-use Rattle.homes.specs.Home.{homeIn}
+use Rattle.layout.specs.Layout.{undefStart, pagesTo, mappedPages, tableRecords, startsTo}
+use Rattle.homes.specs.Home.{homesTo, homeIn}
 use Rattle.homes.specs.Listed.{listedTotal}
 use Rattle.externs.specs.declared.Names.{Names}
 use Rattle.externs.specs.declared.Names.the-variants.{TooMany, Count}
@@ -42,9 +42,9 @@ use Rattle.survey.specs.declared.answer.Counts.{Counts}
 use Rattle.survey.specs.declared.answer.Survey.{Survey}
 use Rattle.survey.specs.declared.answer.Survey.the-variants.{Accepted, Refused}
 use Rattle.survey.specs.Survey.{Check, check, firstFailed, earlyChecks, pageChecks, targetChecks, externChecks, tallyBy, countsBy, tally, checks, counts, answerBy, surveyOf}
-use Rattle.survey.specs.SurveyLaws.{Early, Ordered, failed-first, early, early-rest, with-pages, records-rest, says-refused, fits-is}
-use Rattle.survey.specs.Surveying.{behindPages, targetsAnswer, plannedBy, namesIn, answerIn, codeRoom, homeWords, startWords, codeWords}
-use Rattle.survey.specs.TableLaws.{few-room, many-room, answer-whole}
+use Rattle.survey.specs.SurveyLaws.{Early, Ordered, failed-first, early, early-rest, with-pages, records-rest, says-refused, sections-fit, fits-is}
+use Rattle.survey.specs.Surveying.{behindPages, targetsAnswer, plannedBy, namesIn, answerIn, fewRecords, sectionRoom, homeWords, startWords, codeWords, Cleared}
+use Rattle.survey.specs.TableLaws.{few-cleared, many-cleared, sections-room, answer-whole}
 
 -- ---- the counts
 abbrev pub countsOf : Header → Tally → ℕ → ℕ → ℕ → ℕ → ℕ → Counts
@@ -166,19 +166,25 @@ module _ (f : List ℕ) (h : Header) (homes starts codes : List ℕ) (r : Names)
 pub ruleset extern-ways = (externs-over, externs-fit)
 
 -- ---- the arrays
-pub symbols-by : (n : ℕ) (f : List ℕ) (h : Header) (homes starts codes : List ℕ) (x : Survey) → codes ≡ splice (replicate n 0) 0 (codesTo f h (h .symbols)) → n ≡ codeRoom h
-    → x ≡ answerIn f h homes starts codes → x ≡ answerIn f h homes starts (codeWords f h)
-symbols-by n f h homes starts codes x e q d = let c : codes ≡ codeWords f h = rw q at e in rw c at d
+module _ (f : List ℕ) (h : Header) (homes₀ starts₀ codes₀ homes starts codes : List ℕ) (few : h .sections ≤ MAX-SECTIONS) (zeros : Cleared h homes₀ starts₀ codes₀) where
+  pub records-by : (b : Bool) (u : RVA) (x : Survey) → (h .sections ≤ length homes₀ → homes ≡ splice homes₀ 0 (homesTo f h (h .sections)))
+      → starts ≡ splice starts₀ 0 (startsTo f h (h .sections)) → (h .sections ≤ MAX-SECTIONS → codes ≡ splice codes₀ 0 (codesTo f h (h .symbols)))
+      → b ≡ leb (pagesTo (u .0)) MAX-PAGES → b ≡ true → u ≡ rva (undefStart f h) → x ≡ answerIn f h homes starts codes
+      → x ≡ behindPages f h (answerIn f h (homeWords f h) (startWords f h) (codeWords f h))
+  records-by b u x e q c p t start d =
+      let room : h .sections ≤ length homes₀ = rw (zeros .no-homes, length-replicate {A = ℕ} (sectionRoom h) 0) (sections-room h few) in
+      let a : homes ≡ homeWords f h = rw (zeros .no-homes) at (e room) in
+      let s : starts ≡ startWords f h = rw (zeros .no-starts) at q in
+      let k : codes ≡ codeWords f h = rw (zeros .no-codes) at (c few) in
+      behind-yes f h b u p x (answerIn f h (homeWords f h) (startWords f h) (codeWords f h)) t start (rw (a, s, k) at d)
 
-pub ruleset arrays = (symbols-by, few-room, many-room)
+pub ruleset section-ways = (records-by, behind-no, pages-few)
 
-pub sections-by : (f : List ℕ) (h : Header) (homes starts : List ℕ) (b : Bool) (u : RVA) (x : Survey) → homes ≡ homeWords f h → starts ≡ startWords f h
-    → b ≡ leb (pagesTo (u .0)) MAX-PAGES → b ≡ true → u ≡ rva (undefStart f h) → x ≡ answerIn f h homes starts (codeWords f h)
-    → x ≡ behindPages f h (answerIn f h (homeWords f h) (startWords f h) (codeWords f h))
-sections-by f h homes starts b u x e q p t start d =
-    behind-yes f h b u p x (answerIn f h (homeWords f h) (startWords f h) (codeWords f h)) t start (rw (e, q) at d)
+pub ruleset arrays = (few-cleared, many-cleared, flag-yes, flag-no)
 
-pub ruleset section-ways = (sections-by, behind-no, pages-few)
+pub few-is : (h : Header) {r : Bool} → r ≡ (leb (h .sections) FEW-SECTIONS && leb (h .symbols) FEW-SYMBOLS) → r ≡ fewRecords h
+unfolding fewRecords
+few-is h e = e
 
 -- ---- the whole
 behind-is : (f : List ℕ) (h : Header) (s y : Survey) → (pagesOk f h ≡ true → s ≡ y) → (pagesOk f h ≡ false → Refused PAGES ≡ y) → behindPages f h s ≡ y
@@ -204,6 +210,10 @@ module _ (f : List ℕ) (h : Header) (code : ℕ) (is : code ≡ firstFailed (ea
       let o = early f h [] (sym is ∙ z) in
       behind-is f h _ _ (λ t. ordered-answer (with-pages f h o t) q) (λ t. refused-by (PAGES - 1) (pages-apply o t))
 
+  -- a place for each section
+  pub few-records : code ≡ 0 → h .sections ≤ MAX-SECTIONS
+  few-records z = sections-fit f h (early f h [] (sym is ∙ z) .sectionTable)
+
   pub survey-yes : (x : Survey) → h ≡ headerOf f → code ≡ 0 → x ≡ behindPages f h (answerIn f h (homeWords f h) (startWords f h) (codeWords f h)) → x ≡ surveyOf f
   survey-yes x q z d = rw (← q) (d ∙ pages-answer z q)
 
@@ -214,7 +224,7 @@ module _ (f : List ℕ) (h : Header) (code : ℕ) (is : code ≡ firstFailed (ea
   pub survey-no : h ≡ headerOf f → (code ≡ 0 → ⊥) → Refused code ≡ surveyOf f
   survey-no q z = rw (← q) (early-refused code is z)
 
-pub ruleset whole = (survey-yes, survey-no)
+pub ruleset whole = (few-records, survey-yes, survey-no)
 
 -- ---- the answer by a tally and counts, which are known where UNDEF starts there
 pub targets-by : (f : List ℕ) (h : Header) (home : ℕ → Offset) (target : ℕ → Target) (n : ℕ) (u : RVA) (t : Tally) (c : Counts) {r : Survey}

@@ -146,14 +146,14 @@ few-symbols f h q e =
     (λ t. leb-true (h .symbols) MAX-SYMBOLS (and-left (leb (h .symbols) MAX-SYMBOLS) _ (rw t at e)))
     (yes-no (eqb (h .«symbol_table») 0))
 
-few-sections : (f : List ℕ) (h : Header) → sectionTableOk f h ≡ true → h .sections ≤ MAX-SECTIONS
+pub sections-fit : (f : List ℕ) (h : Header) → sectionTableOk f h ≡ true → h .sections ≤ MAX-SECTIONS
 unfolding sectionTableOk
-few-sections f h e = leb-true (h .sections) MAX-SECTIONS (and-left (leb (h .sections) MAX-SECTIONS) _ e)
+sections-fit f h e = leb-true (h .sections) MAX-SECTIONS (and-left (leb (h .sections) MAX-SECTIONS) _ e)
 
 pub fits-is : (f : List ℕ) (h : Header) → h ≡ headerOf f → Ordered f h → Fits f h
 fits-is f h q o =
     record {
-      sections = few-sections f h (o .sectionTable);
+      sections = sections-fit f h (o .sectionTable);
       symbols = few-symbols f h q (o .symbolTable);
       pages = leb-true (mappedPages f h) MAX-PAGES (o .pages);
     }

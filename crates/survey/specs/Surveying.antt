@@ -1,4 +1,6 @@
 -- What the parts of survey promise and ask.
+use mathlib.Core.Path.{_≡_}
+use mathlib.Core.Bool.{Bool, _&&_}
 use mathlib.Core.List.{List, _++_}
 use Prim.Native.Nat.{ℕ, _≤_}
 use lib.Dec.{leb}
@@ -10,7 +12,7 @@ use Rattle.object.specs.declared.Header.{Header}
 use Rattle.layout.specs.Layout.{undefStart, mappedPages, startsTo}
 use Rattle.homes.specs.Home.{homesTo, homeIn}
 use Rattle.refusal.specs.Refusal.{PAGES}
-use Rattle.limits.specs.Limits.{MAX-SECTIONS, MAX-SYMBOLS, FEW-SYMBOLS, MAX-PAGES}
+use Rattle.limits.specs.Limits.{MAX-SECTIONS, MAX-SYMBOLS, FEW-SECTIONS, FEW-SYMBOLS, MAX-PAGES}
 use Rattle.checks.specs.Checks.{pagesOk}
 use Rattle.codes.specs.Code.{codesTo, putsIn}
 use Rattle.externs.specs.Externs.{externsBy}
@@ -55,19 +57,33 @@ module _ (f : List ℕ) (h : Header) (homes starts codes : List ℕ) where
   abbrev pub answerIn : Survey
   answerIn = externsAnswer f h (homeIn homes) (targetIn homes starts (undefStart f h) (slotted f h namesIn codes)) (length namesIn)
 
--- the room of the array for what the symbols come to
+-- small arrays hold what is kept of the records
+unfoldable pub fewRecords : Header → Bool
+fewRecords h = leb (h .sections) FEW-SECTIONS && leb (h .symbols) FEW-SYMBOLS
+
+-- the room of the arrays for homes and starts of sections,
+unfoldable pub sectionRoom : Header → ℕ
+sectionRoom h = pick (fewRecords h) FEW-SECTIONS MAX-SECTIONS
+
+-- and for what the symbols come to
 unfoldable pub codeRoom : Header → ℕ
-codeRoom h = pick (leb (h .symbols) FEW-SYMBOLS) FEW-SYMBOLS MAX-SYMBOLS
+codeRoom h = pick (fewRecords h) FEW-SYMBOLS MAX-SYMBOLS
+
+-- arrays of zeros with that room
+pub record Cleared (h : Header) (homes starts codes : List ℕ) : Type 0 where
+  pub no-homes : homes ≡ replicate (sectionRoom h) 0
+  pub no-starts : starts ≡ replicate (sectionRoom h) 0
+  pub no-codes : codes ≡ replicate (codeRoom h) 0
 
 -- ---- those words, filled once
 module _ (f : List ℕ) (h : Header) where
   -- where the sections' homes start
   abbrev pub homeWords : List ℕ
-  homeWords = splice (replicate MAX-SECTIONS 0) 0 (homesTo f h (h .sections))
+  homeWords = splice (replicate (sectionRoom h) 0) 0 (homesTo f h (h .sections))
 
   -- where the sections start
   abbrev pub startWords : List ℕ
-  startWords = splice (replicate MAX-SECTIONS 0) 0 (startsTo f h (h .sections))
+  startWords = splice (replicate (sectionRoom h) 0) 0 (startsTo f h (h .sections))
 
   -- what the symbols come to
   abbrev pub codeWords : List ℕ

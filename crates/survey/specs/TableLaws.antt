@@ -1,17 +1,17 @@
 -- The words that survey and load fill once say what the rules do, where the file's records pass their checks.
 use mathlib.Core.Path.{_≡_, refl, sym, ap, _∙_, fun-ext}
-use mathlib.Core.Bool.{true, false, not, _||_}
-use mathlib.Core.List.{List, _++_}
+use mathlib.Core.Bool.{true, false, not, _&&_, _||_}
+use mathlib.Core.List.{List}
 use mathlib.Core.Logic.{⊎-elim}
-use Prim.Native.Nat.{ℕ, _+_, _%_, _^_, _≤_, _<_}
+use Prim.Native.Nat.{ℕ, _%_, _^_, _≤_, _<_}
 use native.Mathlib.Omega.{arith}
 use lib.ListN.{length, getD, replicate, length-replicate, getD-replicate, List·getD-eq-default}
 use lib.Dec.{leb}
-use borrow.Author.Tests.{leb-true, le-leb, lt-leb}
-use Rattle.limits.specs.Limits.{MAX-SECTIONS, MAX-SYMBOLS, FEW-SYMBOLS, MAX-PAGES, MAX-EXTERNS}
-use Rattle.util.specs.Pick.{pick, yes-no, le-or-lt}
+use borrow.Author.Tests.{leb-true, lt-leb}
+use Rattle.limits.specs.Limits.{MAX-SECTIONS, MAX-SYMBOLS, FEW-SECTIONS, FEW-SYMBOLS, MAX-EXTERNS}
+use Rattle.util.specs.Pick.{pick, yes-no, le-or-lt, and-left, and-right}
 use Rattle.util.specs.Prefix.{length-list, list-at, all-at}
-use Rattle.le.specs.Le.{splice, splice-above, part, filled}
+use Rattle.le.specs.Le.{splice, splice-above, part, filled, front-at}
 use Rattle.arch.specs.declared.Offset.{Offset}
 use Rattle.object.specs.declared.Header.{Header}
 use Rattle.object.specs.Symbol.{primary, symbolPlace, kind, okAt}
@@ -27,15 +27,14 @@ use Rattle.checks.specs.Checks.{placeWithin, numberOk, numbersOk}
 use Rattle.rules.specs.declared.Rule.the-variants as rules
 use Rattle.rules.specs.Rule.{ruleOf}
 use Rattle.codes.specs.Code.{SPAN, symbolRule, putsIn}
-use Rattle.codes.specs.Puts.{CodesKept, front-at, filled-kept, puts-kept}
+use Rattle.codes.specs.Puts.{CodesKept, filled-kept, puts-kept}
 use Rattle.externs.specs.Externs.{externs, externsBy}
 use Rattle.externs.specs.Slot.{slotOf}
 use Rattle.externs.specs.Slotted.{slotted}
 use Rattle.targets.specs.Target.{targetOf, targets}
-use Rattle.targets.specs.declared.Target.{Target}
 use Rattle.targets.specs.Table.{targetIn, Coded, target-kept}
 use Rattle.survey.specs.Survey.{firstFailed, answerBy}
-use Rattle.survey.specs.Surveying.{Fits, externsAnswer, answerIn, codeRoom, homeWords, startWords, codeWords}
+use Rattle.survey.specs.Surveying.{Fits, externsAnswer, answerIn, fewRecords, sectionRoom, codeRoom, homeWords, startWords, codeWords, Cleared}
 
 zero-at : (size j : ℕ) → getD {A = ℕ} (replicate size 0) j 0 ≡ 0
 zero-at size j =
@@ -84,43 +83,55 @@ in-section kinds.Unknown Nowhere n e = absurd (let w : _≡_ {A = ℕ} 0 1 = cc 
 in-section kinds.Unknown Other n e = absurd (let w : _≡_ {A = ℕ} 0 1 = cc in omega arith)
 in-section kinds.File p n e = absurd (let w : _≡_ {A = ℕ} 0 1 = cc in omega arith)
 
--- ---- the room for the codes, of few symbols and of many
-pub few-room : (h : Header) → h .symbols ≤ FEW-SYMBOLS → FEW-SYMBOLS ≡ codeRoom h
-unfolding codeRoom pick
-few-room h l = rw (le-leb (h .symbols) FEW-SYMBOLS l)
+-- ---- the arrays' room, for few records and for many
+module _ (h : Header) where
+  pub few-cleared : fewRecords h ≡ true → Cleared h (replicate FEW-SECTIONS 0) (replicate FEW-SECTIONS 0) (replicate FEW-SYMBOLS 0)
+  unfolding sectionRoom codeRoom pick
+  few-cleared t = record { no-homes = rw t; no-starts = rw t; no-codes = rw t }
 
-pub many-room : (h : Header) → FEW-SYMBOLS < h .symbols → MAX-SYMBOLS ≡ codeRoom h
-unfolding codeRoom pick
-many-room h l = rw (lt-leb (h .symbols) FEW-SYMBOLS l)
+  pub many-cleared : fewRecords h ≡ false → Cleared h (replicate MAX-SECTIONS 0) (replicate MAX-SECTIONS 0) (replicate MAX-SYMBOLS 0)
+  unfolding sectionRoom codeRoom pick
+  many-cleared t = record { no-homes = rw t; no-starts = rw t; no-codes = rw t }
+
+  -- what the limits allow has room
+  pub sections-room : h .sections ≤ MAX-SECTIONS → h .sections ≤ sectionRoom h
+  unfolding sectionRoom fewRecords pick
+  sections-room s =
+      ⊎-elim (λ t. rw t (leb-true (h .sections) FEW-SECTIONS (and-left (leb (h .sections) FEW-SECTIONS) (leb (h .symbols) FEW-SYMBOLS) t)))
+      (λ t. rw t s)
+      (yes-no (leb (h .sections) FEW-SECTIONS && leb (h .symbols) FEW-SYMBOLS))
+
+  pub codes-room : h .symbols ≤ MAX-SYMBOLS → h .symbols ≤ codeRoom h
+  unfolding codeRoom fewRecords pick
+  codes-room s =
+      ⊎-elim (λ t. rw t (leb-true (h .symbols) FEW-SYMBOLS (and-right (leb (h .sections) FEW-SECTIONS) (leb (h .symbols) FEW-SYMBOLS) t)))
+      (λ t. rw t s)
+      (yes-no (leb (h .sections) FEW-SECTIONS && leb (h .symbols) FEW-SYMBOLS))
 
 module _ (f : List ℕ) (h : Header) (fits : Fits f h) where
   -- the sections' homes and starts, and the symbols' codes
   pub homes-whole : homeIn (homeWords f h) ≡ sectionHome f h
   homes-whole =
       let l = length-list {A = ℕ} (λ k. homeWord (homeStart f h (homeOf f h k))) (h .sections) in
-      let s = fits .sections in
-      fun-ext (λ j. rw (padded (homesTo f h (h .sections)) MAX-SECTIONS j (omega arith))) ∙ homes-kept f h (fits .pages)
+      let s = sections-room h (fits .sections) in
+      fun-ext (λ j. rw (padded (homesTo f h (h .sections)) (sectionRoom h) j (omega arith))) ∙ homes-kept f h (fits .pages)
 
   pub starts-whole : (i : ℕ) → i < h .sections → getD (startWords f h) i 0 ≡ startAt f h i
   starts-whole i k =
       let l = length-list {A = ℕ} (λ j. startAt f h j % 2 ^ 32) (h .sections) in
-      let s = fits .sections in
+      let s = sections-room h (fits .sections) in
       let b = starts-fit f h (fits .pages) i (omega arith) in
       let m : startAt f h i % 2 ^ 32 ≡ startAt f h i = omega arith in
-      padded (startsTo f h (h .sections)) MAX-SECTIONS i (omega arith) ∙ list-at (λ j. startAt f h j % 2 ^ 32) 0 (h .sections) i k ∙ m
+      padded (startsTo f h (h .sections)) (sectionRoom h) i (omega arith) ∙ list-at (λ j. startAt f h j % 2 ^ 32) 0 (h .sections) i k ∙ m
 
   pub starts-front : part (startWords f h) 0 (h .sections) ≡ startsTo f h (h .sections)
   starts-front =
-      let s = fits .sections in
-      filled (λ j. startAt f h j % 2 ^ 32) (startWords f h) (part (startWords f h) 0 (h .sections)) MAX-SECTIONS (h .sections) refl s refl
-
-  codes-room : h .symbols ≤ codeRoom h
-  unfolding codeRoom pick
-  codes-room = ⊎-elim (λ t. rw t (leb-true (h .symbols) FEW-SYMBOLS t)) (λ t. rw t (fits .symbols)) (yes-no (leb (h .symbols) FEW-SYMBOLS))
+      let s = sections-room h (fits .sections) in
+      filled (λ j. startAt f h j % 2 ^ 32) (startWords f h) (part (startWords f h) 0 (h .sections)) (sectionRoom h) (h .sections) refl s refl
 
   -- the kept codes are those of the records
   pub codes-whole : CodesKept f h (codeWords f h)
-  codes-whole = filled-kept f h (codeWords f h) (codeRoom h) codes-room refl
+  codes-whole = filled-kept f h (codeWords f h) (codeRoom h) (codes-room h (fits .symbols)) refl
 
   -- so the extern names are the file's
   pub names-whole : externsBy f h (putsIn (codeWords f h)) ≡ externs f h

@@ -9,8 +9,9 @@ use externs::Names;
 use fixups::Tally;
 use object::Header;
 ghost use mathlib.Core.Path.{_≡_};
+ghost use mathlib.Core.Bool.{true, false};
 ghost use Prim.Native.Nat.{_+_, _^_, _≤_, _<_};
-ghost use Rattle.limits.specs.Limits.{FEW-SYMBOLS, MAX-PAGES};
+ghost use Rattle.limits.specs.Limits.{MAX-SECTIONS, MAX-PAGES};
 ghost use Rattle.arch.specs.Address.{rva};
 ghost use Rattle.layout.specs.Layout.{undefStart, mappedPages};
 ghost use Rattle.homes.specs.Home.{homeIn};
@@ -18,7 +19,7 @@ ghost use Rattle.targets.specs.Table.{targetIn};
 ghost use Rattle.bounds.specs.Bounds.{relocationTotal};
 ghost use Rattle.fixups.specs.Tallying.{AtMost};
 ghost use Rattle.survey.specs.Survey.{firstFailed, earlyChecks, targetChecks, tallyBy, countsBy, answerBy, surveyOf};
-ghost use Rattle.survey.specs.Surveying.{behindPages, targetsAnswer, plannedBy, answerIn, homeWords, startWords, codeWords};
+ghost use Rattle.survey.specs.Surveying.{behindPages, targetsAnswer, plannedBy, answerIn, fewRecords, homeWords, startWords, codeWords, Cleared};
 
 // The first of refusals 1 to 7 that applies, or 0.
 pub fn records_code(f: &[u8], h: Header) -> u64
@@ -154,49 +155,68 @@ fn survey_externs(
     }
 }
 
-// What each symbol record comes to, found once: of few records in a small array.
-fn survey_few(f: &[u8], h: Header, homes: &[u32], starts: &[u32], undef: RVA) -> Survey
-    requires { ⌜ (mappedPages (now f) h ≤ MAX-PAGES) × (undef ≡ rva (undefStart (now f) h)) × (h .symbols ≤ FEW-SYMBOLS) ⌝ }
-    ensures { λ r. ⌜ r ≡ answerIn (now (f .entry)) h (now (homes .entry)) (now (starts .entry)) (codeWords (now (f .entry)) h) ⌝ }
+// Refusal 8, by what the sections' starts come to; and what follows. Each section's home and start, and what each symbol record comes to, is found once.
+fn survey_with(
+    f: &[u8],
+    h: Header,
+    homes: &mut [u32],
+    starts: &mut [u32],
+    codes: &mut [u16],
+) -> Survey
+    requires { ⌜ (h .sections ≤ MAX-SECTIONS) × Cleared h (now homes) (now starts) (now codes) ⌝ }
+    ensures { λ r. ⌜ r ≡ behindPages (now (f .entry)) h (answerIn (now (f .entry)) h (homeWords (now (f .entry)) h) (startWords (now (f .entry)) h) (codeWords (now (f .entry)) h)) ⌝ }
 {
-    let mut codes = [0u16; limits::FEW_SYMBOLS];
-    codes::fill_codes(f, h, &mut codes);
-    survey_externs(f, h, homes, starts, undef, &mut codes)
-}
-
-// Of more in a large one.
-fn survey_many(f: &[u8], h: Header, homes: &[u32], starts: &[u32], undef: RVA) -> Survey
-    requires { ⌜ (mappedPages (now f) h ≤ MAX-PAGES) × (undef ≡ rva (undefStart (now f) h)) × (FEW-SYMBOLS < h .symbols) ⌝ }
-    ensures { λ r. ⌜ r ≡ answerIn (now (f .entry)) h (now (homes .entry)) (now (starts .entry)) (codeWords (now (f .entry)) h) ⌝ }
-{
-    let mut codes = [0u16; limits::MAX_SYMBOLS];
-    codes::fill_codes(f, h, &mut codes);
-    survey_externs(f, h, homes, starts, undef, &mut codes)
-}
-
-fn survey_symbols(f: &[u8], h: Header, homes: &[u32], starts: &[u32], undef: RVA) -> Survey
-    requires { ⌜ (mappedPages (now f) h ≤ MAX-PAGES) × (undef ≡ rva (undefStart (now f) h)) ⌝ }
-    ensures { λ r. ⌜ r ≡ answerIn (now (f .entry)) h (now (homes .entry)) (now (starts .entry)) (codeWords (now (f .entry)) h) ⌝ }
-{
-    if h.symbols as usize <= limits::FEW_SYMBOLS {
-        survey_few(f, h, homes, starts, undef)
+    let undef = layout::fill_starts(f, h, starts);
+    if checks::pages_fit(undef) {
+        home_search::fill_homes(f, h, homes);
+        codes::fill_codes(f, h, codes);
+        survey_externs(f, h, homes, starts, undef, codes)
     } else {
-        survey_many(f, h, homes, starts, undef)
+        Survey::Refused(refusal::PAGES)
     }
 }
 
-// Refusal 8, by what the sections' starts come to. Each section's home and start is found once.
-fn survey_sections(f: &[u8], h: Header) -> Survey
+// Small arrays have room for what is kept of the records.
+pub fn few_records(h: Header) -> bool
+    ensures { λ r. ⌜ r ≡ fewRecords h ⌝ }
+{
+    util::both(
+        h.sections as usize <= limits::FEW_SECTIONS,
+        h.symbols as usize <= limits::FEW_SYMBOLS,
+    )
+}
+
+// Of few records in small arrays.
+fn survey_few(f: &[u8], h: Header) -> Survey
+    requires { ⌜ (h .sections ≤ MAX-SECTIONS) × (fewRecords h ≡ true) ⌝ }
     ensures { λ r. ⌜ r ≡ behindPages (now (f .entry)) h (answerIn (now (f .entry)) h (homeWords (now (f .entry)) h) (startWords (now (f .entry)) h) (codeWords (now (f .entry)) h)) ⌝ }
 {
+    let mut homes = [0u32; limits::FEW_SECTIONS];
+    let mut starts = [0u32; limits::FEW_SECTIONS];
+    let mut codes = [0u16; limits::FEW_SYMBOLS];
+    survey_with(f, h, &mut homes, &mut starts, &mut codes)
+}
+
+// Of more in large ones.
+fn survey_many(f: &[u8], h: Header) -> Survey
+    requires { ⌜ (h .sections ≤ MAX-SECTIONS) × (fewRecords h ≡ false) ⌝ }
+    ensures { λ r. ⌜ r ≡ behindPages (now (f .entry)) h (answerIn (now (f .entry)) h (homeWords (now (f .entry)) h) (startWords (now (f .entry)) h) (codeWords (now (f .entry)) h)) ⌝ }
+{
+    let mut homes = [0u32; limits::MAX_SECTIONS];
     let mut starts = [0u32; limits::MAX_SECTIONS];
-    let undef = layout::fill_starts(f, h, &mut starts);
-    if checks::pages_fit(undef) {
-        let mut homes = [0u32; limits::MAX_SECTIONS];
-        homes::fill_homes(f, h, &mut homes);
-        survey_symbols(f, h, &homes, &starts, undef)
+    let mut codes = [0u16; limits::MAX_SYMBOLS];
+    survey_with(f, h, &mut homes, &mut starts, &mut codes)
+}
+
+// What follows refusals 1 to 7.
+fn survey_records(f: &[u8], h: Header) -> Survey
+    requires { ⌜ h .sections ≤ MAX-SECTIONS ⌝ }
+    ensures { λ r. ⌜ r ≡ behindPages (now (f .entry)) h (answerIn (now (f .entry)) h (homeWords (now (f .entry)) h) (startWords (now (f .entry)) h) (codeWords (now (f .entry)) h)) ⌝ }
+{
+    if few_records(h) {
+        survey_few(f, h)
     } else {
-        Survey::Refused(refusal::PAGES)
+        survey_many(f, h)
     }
 }
 
@@ -207,7 +227,7 @@ pub fn survey(f: &[u8]) -> Survey
     let h = object::read_header(f);
     let code = records_code(f, h);
     if code == 0 {
-        survey_sections(f, h)
+        survey_records(f, h)
     } else {
         Survey::Refused(code)
     }

@@ -10,7 +10,7 @@ use lib.ListN.{length, getD}
 use borrow.Author.Tests.{ne-eqb, lt-ltb, le-ltb, lt-leb, le-leb}
 use Rattle.util.specs.Pick.{pick, le-or-lt}
 use Rattle.util.specs.Prefix.{length-list, list-at}
-use Rattle.le.specs.Le.{splice-above}
+use Rattle.le.specs.Le.{splice-above, front-at}
 use Rattle.limits.specs.Limits.{SLOT-SIZE}
 use Rattle.arch.specs.declared.Offset.{Offset}
 use Rattle.arch.specs.declared.Offset.the-variants.{None}
@@ -22,7 +22,7 @@ use Rattle.names.specs.Name.{symbolText}
 use Rattle.rules.specs.declared.Rule.{Rule}
 use Rattle.rules.specs.declared.Rule.the-variants as rules
 use Rattle.codes.specs.Code.{AUXILIARY, REFUSED, SLOT, EXTERN, UNDEF-RECORD, UNDEF-EXTERN, NO-SLOT, SPAN, HOMES, RECORDS, SLOTS, someSectionNamed, symbolRule, namedCode, ruleCode, symbolCode, codeOf}
-use Rattle.codes.specs.Puts.{CodesKept, front-at}
+use Rattle.codes.specs.Puts.{CodesKept}
 use Rattle.layout.specs.Layout.{startAt, undefStart}
 use Rattle.homes.specs.declared.Home as Homes
 use Rattle.homes.specs.declared.Home.the-variants.{Loaded, Undef, Nowhere}

@@ -15,4 +15,5 @@ write-names-spec =
     (λ c. search (needs, parts))
     (λ c. search (needs, parts))
     (λ c. search (needs, parts))
+    (λ c. search (needs, parts))
     (λ c. search (needs, parts)))

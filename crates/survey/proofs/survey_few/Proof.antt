@@ -10,5 +10,5 @@ survey-few-spec =
     (λ c. search (needs, arrays))
     (λ c. search (needs, arrays))
     (λ c. search (needs, arrays))
-    (λ c. search (needs, arrays))
+    (λ c κs. (search needs, search (needs, arrays)))
     (λ c. search (needs, arrays)))

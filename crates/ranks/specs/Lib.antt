@@ -1,0 +1,4 @@
+pub mod Rank
+pub mod RankLaws
+pub mod Merge
+pub mod Search
