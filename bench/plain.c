@@ -22,11 +22,10 @@ struct section {
     uint32_t flags;
     uint32_t file_start, file_end; /* 0 if uninitialised */
     uint32_t start, length;        /* in the image, if it is loaded */
+    uint32_t record;               /* in the section table, if it is loaded */
     const uint8_t *relocations;
     uint32_t count;
-    int home; /* record of the section table, or NO_HOME */
 };
-enum { NO_HOME = -1 };
 
 struct symbol {
     struct name name;
@@ -49,9 +48,9 @@ struct plain {
     const uint8_t *file, *strings;
     const struct type *types;
     struct section *sections;
-    uint32_t *starts; /* of the records of the section table, UNDEF's last */
     struct symbol *symbols;
     struct name *externs;
+    uint32_t undef; /* UNDEF's start in the image */
     struct nelgrauf_counts counts;
 };
 
@@ -153,20 +152,6 @@ static void read_section(const struct plain *p, const uint8_t *record, struct se
     }
 }
 
-/* The first record of the section table with the same file start; UNDEF's is 0. */
-static int home_of(const struct plain *p, const struct section *s)
-{
-    int record = 0;
-    for (uint32_t i = 0; i < p->counts.file_sections; i++) {
-        if (!is_loaded(&p->sections[i]))
-            continue;
-        if (p->sections[i].file_start == s->file_start)
-            return record;
-        record++;
-    }
-    return s->file_start == 0 ? record : NO_HOME;
-}
-
 static void read_sections(struct plain *p)
 {
     struct nelgrauf_counts *c = &p->counts;
@@ -178,14 +163,13 @@ static void read_sections(struct plain *p)
         c->relocations += s->count;
         if (is_loaded(s)) {
             s->start = at;
-            p->starts[c->sections++] = at;
+            s->record = (uint32_t)c->sections++;
             at = round_up(at + s->length, PAGE);
         }
     }
-    p->starts[c->sections++] = at;
+    p->undef = at;
+    c->sections++;
     c->pages = at / PAGE + 2;
-    for (uint32_t i = 0; i < c->file_sections; i++)
-        p->sections[i].home = home_of(p, &p->sections[i]);
 }
 
 /* ---- symbols */
@@ -222,7 +206,7 @@ static uint8_t place_of(const uint8_t *record)
 
 static bool is_listed(const struct plain *p, const struct symbol *s)
 {
-    return s->own && s->place == IN_SECTION && p->sections[s->section - 1].home != NO_HOME;
+    return s->own && s->place == IN_SECTION && is_loaded(&p->sections[s->section - 1]);
 }
 
 static void read_symbols(struct plain *p)
@@ -295,11 +279,6 @@ static void collect_externs(struct plain *p)
     p->counts.externs = kept;
 }
 
-static uint32_t undef_of(const struct plain *p)
-{
-    return p->starts[p->counts.sections - 1];
-}
-
 /* Whether a record of the section table has the name; its start. */
 static bool start_by_name(const struct plain *p, struct name name, uint32_t *start)
 {
@@ -309,18 +288,18 @@ static bool start_by_name(const struct plain *p, struct name name, uint32_t *sta
             *start = p->sections[i].start;
             return true;
         }
-    *start = undef_of(p);
+    *start = p->undef;
     return same(undef, name);
 }
 
 static void find_target(const struct plain *p, struct symbol *s)
 {
     if (s->place == IN_SECTION && s->kind != NELGRAUF_UNKNOWN) {
-        int home = p->sections[s->section - 1].home;
-        if (home == NO_HOME)
-            s->skip = NELGRAUF_NO_HOME;
+        const struct section *home = &p->sections[s->section - 1];
+        if (is_loaded(home))
+            s->target = home->start;
         else
-            s->target = p->starts[home];
+            s->skip = NELGRAUF_NO_HOME;
         return;
     }
     if (s->kind == NELGRAUF_SECTION && start_by_name(p, s->name, &s->target))
@@ -329,7 +308,7 @@ static void find_target(const struct plain *p, struct symbol *s)
     if (slot == NULL)
         s->skip = NELGRAUF_NO_SLOT;
     else
-        s->target = undef_of(p) + 4 * (uint32_t)(slot - p->externs);
+        s->target = p->undef + 4 * (uint32_t)(slot - p->externs);
 }
 
 /* ---- relocations */
@@ -351,7 +330,7 @@ static void count_relocations(struct plain *p)
     struct nelgrauf_counts *c = &p->counts;
     for (uint32_t i = 0; i < c->file_sections; i++) {
         const struct section *s = &p->sections[i];
-        if (s->home == NO_HOME) {
+        if (!is_loaded(s)) {
             c->passed += s->count;
             continue;
         }
@@ -361,10 +340,10 @@ static void count_relocations(struct plain *p)
     c->fixups = c->relocations - c->passed - c->skips;
 }
 
-static struct nelgrauf_fixup fixup_of(const struct plain *p, uint64_t base, uint64_t home, const uint8_t *relocation)
+static struct nelgrauf_fixup fixup_of(const struct plain *p, uint64_t base, const struct section *s, const uint8_t *relocation)
 {
     const struct type *type = &p->types[word(relocation + 8)];
-    uint64_t place = base + home + dword(relocation);
+    uint64_t place = base + s->start + dword(relocation);
     uint64_t value = base + p->symbols[dword(relocation + 4)].target + (uint64_t)(int64_t)type->addend;
     return (struct nelgrauf_fixup){ place, type->bits, type->relative ? value - place : value };
 }
@@ -373,13 +352,13 @@ static void write_relocations(const struct plain *p, uint64_t base, struct nelgr
 {
     for (uint32_t i = 0; i < p->counts.file_sections; i++) {
         const struct section *s = &p->sections[i];
-        if (s->home == NO_HOME)
+        if (!is_loaded(s))
             continue;
         for (uint32_t k = 0; k < s->count; k++) {
             const uint8_t *relocation = s->relocations + 10 * k;
             uint64_t reason = skip_of(p, relocation);
             if (reason == 0)
-                *fixup++ = fixup_of(p, base, p->starts[s->home], relocation);
+                *fixup++ = fixup_of(p, base, s, relocation);
             else
                 *skip++ = (struct nelgrauf_skip){ i + 1, k, reason };
         }
@@ -406,8 +385,8 @@ static void write_sections(const struct plain *p, uint64_t base, uint8_t *image,
         *record++ = (struct nelgrauf_section){ base + s->start, base + s->start + s->length, s->file_start, s->file_end,
                                                permissions, in_file(p, s->name), s->name.length, i + 1 };
     }
-    uint64_t undef = base + undef_of(p);
-    memset(image + undef_of(p), 0, 2 * PAGE);
+    uint64_t undef = base + p->undef;
+    memset(image + p->undef, 0, 2 * PAGE);
     *record = (struct nelgrauf_section){ .start = undef, .end = undef + PAGE, .permissions = NELGRAUF_READ };
 }
 
@@ -417,15 +396,15 @@ static void write_symbols(const struct plain *p, uint64_t base, struct nelgrauf_
         const struct symbol *s = &p->symbols[j];
         if (!is_listed(p, s))
             continue;
-        int home = p->sections[s->section - 1].home;
-        *record++ = (struct nelgrauf_symbol){ base + p->starts[home] + s->value, s->kind, in_file(p, s->name), s->name.length, j, (uint64_t)home };
+        const struct section *home = &p->sections[s->section - 1];
+        *record++ = (struct nelgrauf_symbol){ base + home->start + s->value, s->kind, in_file(p, s->name), s->name.length, j, home->record };
     }
 }
 
 static void write_externs(const struct plain *p, uint64_t base, uint8_t *image, struct nelgrauf_extern *records)
 {
     for (uint32_t e = 0; e < p->counts.externs; e++) {
-        uint32_t slot = undef_of(p) + 4 * e, address = (uint32_t)base + slot;
+        uint32_t slot = p->undef + 4 * e, address = (uint32_t)base + slot;
         memcpy(image + slot, &address, sizeof address);
         records[e] = (struct nelgrauf_extern){ address, p->externs[e].symbol, in_file(p, p->externs[e]), p->externs[e].length };
     }
@@ -460,7 +439,6 @@ struct plain *plain_survey(const uint8_t *file, struct nelgrauf_counts *counts)
     p->strings = file + table + 18 * c->symbol_records;
     p->types = word(file) == 0x8664 ? x64 : i386;
     p->sections = cleared(c->file_sections, sizeof *p->sections);
-    p->starts = cleared(c->file_sections, sizeof *p->starts);
     p->symbols = cleared(c->symbol_records, sizeof *p->symbols);
     p->externs = cleared(c->symbol_records, sizeof *p->externs);
     read_sections(p);
@@ -498,7 +476,6 @@ void plain_patch(uint64_t base, uint8_t *image, const struct nelgrauf_fixup *fix
 void plain_free(struct plain *p)
 {
     free(p->sections);
-    free(p->starts);
     free(p->symbols);
     free(p->externs);
     free(p);

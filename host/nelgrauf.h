@@ -78,7 +78,7 @@ enum nelgrauf_permission {
 /* Why a relocation was skipped; the first that holds. */
 enum nelgrauf_skip_reason {
     NELGRAUF_NO_SYMBOL = 1,    /* no record of that symbol number */
-    NELGRAUF_NO_HOME = 2,      /* the symbol's section has no home */
+    NELGRAUF_NO_HOME = 2,      /* the symbol's section is not loaded, so it has no home */
     NELGRAUF_NO_SLOT = 3,      /* no slot for the symbol's name */
     NELGRAUF_UNKNOWN_TYPE = 4  /* the machine has no such type */
 };
@@ -91,7 +91,7 @@ struct nelgrauf_counts {
     uint64_t externs;        /* extern records */
     uint64_t fixups;         /* fixup records */
     uint64_t skips;          /* skip records */
-    uint64_t passed;         /* passed relocations */
+    uint64_t passed;         /* passed relocations: those of sections that are not loaded */
     uint64_t file_sections;  /* section records of the file */
     uint64_t symbol_records; /* symbol records of the file, auxiliary ones included */
     uint64_t relocations;    /* relocations of the file */
@@ -111,12 +111,12 @@ struct nelgrauf_section {
 
 /* A listed symbol. */
 struct nelgrauf_symbol {
-    uint64_t address;     /* home start plus value */
+    uint64_t address;     /* start of its home plus value */
     uint64_t kind;        /* enum nelgrauf_kind */
     uint64_t name_start;  /* start of the name in the file */
     uint64_t name_length; /* length of the name */
     uint64_t number;      /* symbol number, from 0, auxiliary records counted */
-    uint64_t home;        /* record of the section table, from 0 */
+    uint64_t home;        /* its section's record of the section table, from 0; never UNDEF's */
 };
 
 /* An extern name. */

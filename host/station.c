@@ -277,7 +277,7 @@ static const char *reason_words(uint64_t reason)
 {
     static const char *const words[] = {
         [NELGRAUF_NO_SYMBOL] = "no record of that symbol number",
-        [NELGRAUF_NO_HOME] = "the symbol's section has no home",
+        [NELGRAUF_NO_HOME] = "the symbol's section is not loaded",
         [NELGRAUF_NO_SLOT] = "no slot for the symbol's name",
         [NELGRAUF_UNKNOWN_TYPE] = "an unknown type",
     };

@@ -37,6 +37,15 @@ struct stream {
     bool ended;
 };
 
+/* `bytes` bytes of an object as a number, the first the lowest. */
+static inline uint64_t number_at(const uint8_t *at, size_t bytes)
+{
+    uint64_t value = 0;
+    while (bytes != 0)
+        value = value << 8 | at[--bytes];
+    return value;
+}
+
 static void next_line(struct stream *s)
 {
     ssize_t n = getline(&s->line, &s->room, s->in);

@@ -347,6 +347,20 @@ static bool tables_fit(const struct place *p, const struct nelgrauf_counts *c)
     return true;
 }
 
+/* A symbol's home is the record with the number of the section that the symbol names, and never UNDEF's, which is the last. */
+static bool homes_fit(const struct place *p, const struct nelgrauf_counts *c)
+{
+    for (uint64_t i = 0; i < c->symbols; i++) {
+        const struct nelgrauf_symbol *y = &symbols_of(p)[i];
+        if (!expect(y->number < c->symbol_records && y->home < c->sections - 1, "symbol %" PRIu64 " has no record or no home", i))
+            return false;
+        uint64_t section = number_at(file.at + number_at(file.at + 8, 4) + 18 * y->number + 12, 2);
+        if (!expect(sections_of(p)[y->home].number == section, "symbol %" PRIu64 " of section %" PRIu64 " has another home", i, section))
+            return false;
+    }
+    return true;
+}
+
 static bool marks_fit(const struct place *p, const struct nelgrauf_counts *c)
 {
     const struct buffer *b = &p->s->of[MARKS];
@@ -686,7 +700,7 @@ static bool take_place(struct place *p, const struct nelgrauf_counts *c, uint64_
     if (!load_exact(p->s, c, base))
         return false;
     memcpy(p->fixups, p->s->of[FIXUPS].at, p->s->of[FIXUPS].size);
-    if (!tables_fit(p, c) || !marks_fit(p, c))
+    if (!tables_fit(p, c) || !homes_fit(p, c) || !marks_fit(p, c))
         return false;
     lay(p, c);
     return image_is(p, p->laid, "load");

@@ -29,15 +29,12 @@ use Rattle.names.specs.Bytes.{compareBytes, sameBytes, UNDEF}
 use Rattle.names.specs.OrderLaws.{equal-same, same-equal, same-bytes, bytes-same}
 use Rattle.names.specs.declared.Span.{Span}
 use Rattle.names.specs.Name.{sectionSpan, symbolSpan, spanText, sectionText}
-use Rattle.ranks.specs.Rank.{sectionKey, lateness, sectionRanks, InOrder}
+use Rattle.ranks.specs.Rank.{lateness, sectionRanks, InOrder}
 use Rattle.ranks.specs.RankLaws.{ranks-room, ranks-long}
 use Rattle.ranks.specs.Search.{isLower, lowerThan, Halved, ranks-in-order}
-use Rattle.ranks.specs.declared.By.the-variants as By
-use Rattle.homes.specs.declared.Home.{Home}
-use Rattle.homes.specs.declared.Home.the-variants.{Loaded}
-use Rattle.homes.specs.Home.{loadedNamed, namedRecord}
-use Rattle.homes.specs.Ranked.{Tells, ranked-first, ranked-none, ranked-some, ranked-without}
-use Rattle.codes.specs.Code.{AUXILIARY, REFUSED, SLOT, EXTERN, UNDEF-RECORD, UNDEF-EXTERN, SPAN, HOMES, RECORDS, sectionIsNamed, someSectionNamed, namedCode, ruleCode, codeByName, codeOf, codesTo, isExtern, putsIn}
+use Rattle.ranks.specs.Named.{TableRecord, Loaded, sectionIsNamed, someSectionNamed, loadedNamed, namedRecord}
+use Rattle.ranks.specs.Ranked.{ranked-first, ranked-none, ranked-some, ranked-without}
+use Rattle.codes.specs.Code.{AUXILIARY, REFUSED, SLOT, EXTERN, UNDEF-RECORD, UNDEF-EXTERN, SPAN, HOMES, RECORDS, namedCode, ruleCode, codeByName, codeOf, codesTo, isExtern, putsIn}
 use Rattle.codes.specs.Draft.{NAMED, undefNamed, codeThere, draftOf, draftsTo, someDrafts, finalCode, finalCodes, draft-named, draft-plain}
 
 -- ---- one code of the list
@@ -54,19 +51,18 @@ pub ruleset one-code = (code-in, code-past)
 -- ---- a section by name
 module _ (f : List ℕ) (h : Header) (name : List ℕ) where
   module _ (x : ℕ) (t : Span) (o : Order) (is : t ≡ sectionSpan f h x) (by : o ≡ compareBytes (spanText f t) name) where
-    order-is : o ≡ compareBytes (sectionKey By.Name f h x) name
-    unfolding sectionKey
+    order-is : o ≡ compareBytes (sectionText f h x) name
     order-is = rw (← is) by
 
-    pub before-less : o ≡ Less → true ≡ lowerThan (sectionKey By.Name f h) name x
+    pub before-less : o ≡ Less → true ≡ lowerThan (sectionText f h) name x
     unfolding isLower
     before-less e = rw (← order-is, e)
 
-    pub before-equal : o ≡ Equal → false ≡ lowerThan (sectionKey By.Name f h) name x
+    pub before-equal : o ≡ Equal → false ≡ lowerThan (sectionText f h) name x
     unfolding isLower
     before-equal e = rw (← order-is, e)
 
-    pub before-greater : o ≡ Greater → false ≡ lowerThan (sectionKey By.Name f h) name x
+    pub before-greater : o ≡ Greater → false ≡ lowerThan (sectionText f h) name x
     unfolding isLower
     before-greater e = rw (← order-is, e)
 
@@ -112,24 +108,20 @@ module _ (f : List ℕ) (h : Header) (name : List ℕ) where
     unfolding codeThere pick
     there-greater e d = rw (there-not (λ z. let y : _≡_ {A = ℕ} 0 1 = cc in absurd (omega arith))) d
 
-  tells : Tells f h (sectionKey By.Name f h) name (sectionIsNamed f h name) (loadedNamed f h name)
-  unfolding loadedNamed sectionKey
-  tells = record { has = λ j e. same-bytes (sectionText f h j) name e; says = λ j e. bytes-same (sectionText f h j) name e; both = λ j. refl }
-
   -- what stands at the end of the search
-  module _ (ranks : List ℕ) (p : ℕ) (is : ranks ≡ sectionRanks By.Name f h) (ends : Halved (lowerThan (sectionKey By.Name f h) name) ranks p 0) where
-    in-order : InOrder (sectionKey By.Name f h) (lateness f h) (h .sections) ranks
-    in-order = ranks-in-order By.Name f h name ranks is
+  module _ (ranks : List ℕ) (p : ℕ) (is : ranks ≡ sectionRanks f h) (ends : Halved (lowerThan (sectionText f h) name) ranks p 0) where
+    in-order : InOrder (sectionText f h) (lateness f h) (h .sections) ranks
+    in-order = ranks-in-order f h name ranks is
 
     none-at : (p < h .sections → loadedNamed f h name (getD ranks p 0) ≡ false) → namedRecord f h name ≡ undefNamed name
     none-at r =
-        ranked-none f h (sectionKey By.Name f h) name (sectionIsNamed f h name) (loadedNamed f h name) ranks p tells in-order ends (sameBytes name UNDEF) r
+        ranked-none f h name ranks p in-order ends r
 
     without-at : (p < h .sections → sectionIsNamed f h name (getD ranks p 0) ≡ false) → someSectionNamed f h name ≡ false
-    without-at r = ranked-without f h (sectionKey By.Name f h) name (sectionIsNamed f h name) (loadedNamed f h name) ranks p tells in-order ends r
+    without-at r = ranked-without f h name ranks p in-order ends r
 
     some-at : p < h .sections → sectionIsNamed f h name (getD ranks p 0) ≡ true → someSectionNamed f h name ≡ true
-    some-at k r = ranked-some f h (sectionKey By.Name f h) name (sectionIsNamed f h name) (loadedNamed f h name) ranks p tells in-order ends k r
+    some-at k r = ranked-some f h name ranks p in-order ends k r
 
     both-at : (a b : Bool) → loaded f h (getD ranks p 0) ≡ a → sectionIsNamed f h name (getD ranks p 0) ≡ b → loadedNamed f h name (getD ranks p 0) ≡ (a && b)
     unfolding loadedNamed
@@ -139,7 +131,7 @@ module _ (f : List ℕ) (h : Header) (name : List ℕ) where
         → pick b (pick a (namedCode (Loaded (getD ranks p 0)) true) (namedCode (undefNamed name) true)) (namedCode (undefNamed name) false) ≡ codeByName f h name
     unfolding pick
     there-case true true k e d =
-        rw (ranked-first f h (sectionKey By.Name f h) name (sectionIsNamed f h name) (loadedNamed f h name) ranks p tells in-order ends (sameBytes name UNDEF) k (both-at true true e d), some-at k d)
+        rw (ranked-first f h name ranks p in-order ends k (both-at true true e d), some-at k d)
     there-case false true k e d = rw (none-at (λ z. both-at false true e d), some-at k d)
     there-case a false k e d = rw (none-at (λ z. both-at a false e d ∙ and-false a), without-at (λ z. d))
 
@@ -152,7 +144,7 @@ module _ (f : List ℕ) (h : Header) (name : List ℕ) where
     pub name-past : (c : ℕ) → length ranks ≤ p → c ≡ namedCode (undefNamed name) false → c ≡ codeByName f h name
     name-past c k q =
         let long = in-order .long in
-        q ∙ sym (ap (λ (x : Home). namedCode x (someSectionNamed f h name)) (none-at (λ z. absurd (omega arith))) ∙ ap (namedCode (undefNamed name)) (without-at (λ z. absurd (omega arith))))
+        q ∙ sym (ap (λ (x : TableRecord). namedCode x (someSectionNamed f h name)) (none-at (λ z. absurd (omega arith))) ∙ ap (namedCode (undefNamed name)) (without-at (λ z. absurd (omega arith))))
 
 pub ruleset order-ways = (before-less, before-equal, before-greater)
 
@@ -267,7 +259,7 @@ module _ (f : List ℕ) (h : Header) (l w : List ℕ) (e : w ≡ splice l 0 (dra
       t k ∙ s ∙ ap (λ (x : List ℕ). splice x 0 (codesTo f h (h .symbols))) e ∙ splice-over l (draftsTo f h (h .symbols)) (codesTo f h (h .symbols)) (a ∙ sym c)
 
 -- the order that was made, and the array that holds it
-pub made-order : (f : List ℕ) (h : Header) (a b : List ℕ) → length a ≡ h .sections → h .sections ≤ MAX-SECTIONS → (length a ≡ h .sections → h .sections ≤ MAX-SECTIONS → b ≡ sectionRanks By.Name f h) → b ≡ sectionRanks By.Name f h
+pub made-order : (f : List ℕ) (h : Header) (a b : List ℕ) → length a ≡ h .sections → h .sections ≤ MAX-SECTIONS → (length a ≡ h .sections → h .sections ≤ MAX-SECTIONS → b ≡ sectionRanks f h) → b ≡ sectionRanks f h
 made-order f h a b l k e = e l k
 
 pub not-made : (h : Header) (x y : List ℕ) → MAX-SECTIONS < h .sections → h .sections ≤ MAX-SECTIONS → x ≡ y

@@ -6,17 +6,14 @@ use Prim.Native.Nat.{ℕ, _+_, _%_}
 use lib.Dec.{eqb}
 use lib.ListN.{getD}
 use Rattle.util.specs.Pick.{pick}
-use Rattle.util.specs.Prefix.{anyTo, listTo}
+use Rattle.util.specs.Prefix.{listTo}
 use Rattle.object.specs.declared.Header.{Header}
 use Rattle.object.specs.Symbol.{kind, symbolPlace, primary}
 use Rattle.rules.specs.declared.Rule.{Rule}
 use Rattle.rules.specs.declared.Rule.the-variants.{Section, Extern, Slot, Name, Refused}
 use Rattle.rules.specs.Rule.{ruleOf}
-use Rattle.names.specs.Bytes.{sameBytes}
-use Rattle.names.specs.Name.{sectionText, symbolText}
-use Rattle.homes.specs.declared.Home.{Home}
-use Rattle.homes.specs.declared.Home.the-variants.{Loaded, Undef, Nowhere}
-use Rattle.homes.specs.Home.{namedRecord}
+use Rattle.names.specs.Name.{symbolText}
+use Rattle.ranks.specs.Named.{TableRecord, Loaded, Undef, Nowhere, someSectionNamed, namedRecord}
 
 -- ---- the codes that stand for one thing: 0 is no record
 -- an auxiliary record
@@ -64,20 +61,12 @@ RECORDS = 0x8000
 abbrev pub SLOTS : ℕ
 SLOTS = 0xC000
 
--- section i has that name
-abbrev pub sectionIsNamed : List ℕ → Header → List ℕ → ℕ → Bool
-sectionIsNamed f h name i = sameBytes (sectionText f h i) name
-
--- some file section, loaded or not, has it
-abbrev pub someSectionNamed : List ℕ → Header → List ℕ → Bool
-someSectionNamed f h name = anyTo (sectionIsNamed f h name) (h .sections)
-
 -- what is looked for with symbol j
 abbrev pub symbolRule : List ℕ → Header → ℕ → Rule
 symbolRule f h j = ruleOf (kind f h j) (symbolPlace f h j)
 
 -- a section by its name: its record, UNDEF's, or the slot; `taken`: some file section has the name
-unfoldable pub namedCode : Home → Bool → ℕ
+unfoldable pub namedCode : TableRecord → Bool → ℕ
 namedCode (Loaded i) taken = RECORDS + i % SPAN
 namedCode Undef taken = pick taken UNDEF-RECORD UNDEF-EXTERN
 namedCode Nowhere taken = pick taken SLOT EXTERN

@@ -16,16 +16,15 @@ use Rattle.rules.specs.declared.Rule.{Rule}
 use Rattle.rules.specs.declared.Rule.the-variants.{Section, Extern, Slot, Name, Refused}
 use Rattle.names.specs.Bytes.{sameBytes, UNDEF}
 use Rattle.names.specs.Name.{symbolText}
-use Rattle.homes.specs.declared.Home.{Home}
-use Rattle.homes.specs.declared.Home.the-variants.{Loaded, Undef, Nowhere}
-use Rattle.codes.specs.Code.{AUXILIARY, SPAN, HOMES, sectionIsNamed, symbolRule, namedCode, ruleCode, codeByName, codeOf}
+use Rattle.ranks.specs.Named.{TableRecord, Loaded, Undef, Nowhere, sectionIsNamed}
+use Rattle.codes.specs.Code.{AUXILIARY, SPAN, HOMES, symbolRule, namedCode, ruleCode, codeByName, codeOf}
 
 -- the code for the time being of a symbol whose section is looked for by name
 abbrev pub NAMED : ℕ
 NAMED = 8
 
 -- what has a name that no loaded section has: UNDEF, or nothing
-abbrev pub undefNamed : List ℕ → Home
+abbrev pub undefNamed : List ℕ → TableRecord
 undefNamed name = pick (sameBytes name UNDEF) Undef Nowhere
 
 module _ (f : List ℕ) (h : Header) where

@@ -18,11 +18,9 @@ use Rattle.rules.specs.declared.Rule.{Rule}
 use Rattle.rules.specs.declared.Rule.the-variants.{Section, Extern, Slot, Name, Refused}
 use Rattle.names.specs.Bytes.{sameBytes, UNDEF}
 use Rattle.names.specs.Name.{symbolText}
-use Rattle.homes.specs.declared.Home.{Home}
-use Rattle.homes.specs.declared.Home.the-variants.{Loaded, Undef, Nowhere}
-use Rattle.homes.specs.Home.{loadedNamed, namedRecord}
-use Rattle.homes.specs.FirstLaws.{found-at}
-use Rattle.codes.specs.Code.{AUXILIARY, EXTERN, UNDEF-EXTERN, SPAN, HOMES, RECORDS, sectionIsNamed, someSectionNamed, symbolRule, namedCode, ruleCode, symbolCode, codeOf, codesTo, isExtern, putsIn}
+use Rattle.ranks.specs.Named.{TableRecord, Loaded, Undef, Nowhere, sectionIsNamed, someSectionNamed, loadedNamed, namedRecord}
+use Rattle.ranks.specs.FirstLaws.{found-at}
+use Rattle.codes.specs.Code.{AUXILIARY, EXTERN, UNDEF-EXTERN, SPAN, HOMES, RECORDS, symbolRule, namedCode, ruleCode, symbolCode, codeOf, codesTo, isExtern, putsIn}
 
 -- by the rule; `taken`: some file section has the name
 unfoldable pub putsBy : Rule → Bool → Bool
@@ -48,7 +46,7 @@ high c = rw (ne-eqb (HOMES + c) EXTERN (λ e. omega arith), ne-eqb (HOMES + c) U
 higher : (c : ℕ) → isExtern (RECORDS + c) ≡ false
 higher c = rw (ne-eqb (RECORDS + c) EXTERN (λ e. omega arith), ne-eqb (RECORDS + c) UNDEF-EXTERN (λ e. omega arith))
 
-named-puts : (x : Home) (taken : Bool) → ((i : ℕ) → x ≡ Loaded i → taken ≡ true) → isExtern (namedCode x taken) ≡ not taken
+named-puts : (x : TableRecord) (taken : Bool) → ((i : ℕ) → x ≡ Loaded i → taken ≡ true) → isExtern (namedCode x taken) ≡ not taken
 unfolding namedCode pick
 named-puts (Loaded i) taken t = rw (higher (i % SPAN), t i refl)
 named-puts Undef true t = refl
@@ -56,7 +54,7 @@ named-puts Undef false t = refl
 named-puts Nowhere true t = refl
 named-puts Nowhere false t = refl
 
-rule-puts : (r : Rule) (x : Home) (taken : Bool) → ((i : ℕ) → x ≡ Loaded i → taken ≡ true) → isExtern (ruleCode r (namedCode x taken)) ≡ putsBy r taken
+rule-puts : (r : Rule) (x : TableRecord) (taken : Bool) → ((i : ℕ) → x ≡ Loaded i → taken ≡ true) → isExtern (ruleCode r (namedCode x taken)) ≡ putsBy r taken
 unfolding ruleCode putsBy
 rule-puts (Section n) x taken t = high (n % SPAN)
 rule-puts Extern x taken t = refl

@@ -3,7 +3,6 @@ use names::Order;
 use names::Span;
 use object::Header;
 use object::Symbol;
-use ranks::By;
 use rules::Rule;
 ghost use mathlib.Core.Path.{_≡_};
 ghost use mathlib.Core.Bool.{true, false};
@@ -14,14 +13,13 @@ ghost use lib.ListN.{length, getD};
 ghost use Rattle.limits.specs.Limits.{MAX-SECTIONS};
 ghost use Rattle.util.specs.Pick.{pick};
 ghost use Rattle.le.specs.Le.{splice};
-ghost use Rattle.names.specs.Name.{spanText};
+ghost use Rattle.names.specs.Name.{spanText, sectionText};
 ghost use Rattle.object.specs.Section.{loaded};
 ghost use Rattle.object.specs.Symbol.{kindOf, placeOf};
 ghost use Rattle.rules.specs.Rule.{ruleOf};
-ghost use Rattle.ranks.specs.Rank.{sectionKey, sectionRanks};
+ghost use Rattle.ranks.specs.Rank.{sectionRanks};
 ghost use Rattle.ranks.specs.Search.{lowerThan, Halved};
-ghost use Rattle.ranks.specs.declared.By.the-variants as By;
-ghost use Rattle.homes.specs.declared.Home.the-variants.{Loaded};
+ghost use Rattle.ranks.specs.Named.{Loaded};
 ghost use Rattle.codes.specs.Code.{AUXILIARY, namedCode, ruleCode, codeByName, codesTo, isExtern, putsIn};
 ghost use Rattle.codes.specs.Draft.{NAMED, undefNamed, codeThere, draftsTo, someDrafts, finalCode, finalCodes};
 
@@ -81,7 +79,7 @@ pub fn put_code(codes: &mut [u16], j: u32, c: u16)
 
 // Whether section x's name comes before that one.
 fn is_before(f: &[u8], h: Header, name: Span, x: u16) -> bool
-    ensures { λ r. ⌜ r ≡ lowerThan (sectionKey By.Name (now (f .entry)) h) (spanText (now (f .entry)) name) x ⌝ }
+    ensures { λ r. ⌜ r ≡ lowerThan (sectionText (now (f .entry)) h) (spanText (now (f .entry)) name) x ⌝ }
 {
     match order::compare(f, names::section_span(f, h, x as u32), name) {
         Order::Less => true,
@@ -92,8 +90,8 @@ fn is_before(f: &[u8], h: Header, name: Span, x: u16) -> bool
 
 // Where the names that come before that one end, in the sections' order: of the n from lo the middle one decides.
 fn first_named(f: &[u8], h: Header, ranks: &[u16], name: Span) -> usize
-    requires { ⌜ now ranks ≡ sectionRanks By.Name (now f) h ⌝ }
-    ensures { λ r. ⌜ Halved (lowerThan (sectionKey By.Name (now (f .entry)) h) (spanText (now (f .entry)) name)) (now (ranks .entry)) r 0 ⌝ }
+    requires { ⌜ now ranks ≡ sectionRanks (now f) h ⌝ }
+    ensures { λ r. ⌜ Halved (lowerThan (sectionText (now (f .entry)) h) (spanText (now (f .entry)) name)) (now (ranks .entry)) r 0 ⌝ }
 {
     let mut lo: usize = 0;
     let mut n = ranks.len();
@@ -156,7 +154,7 @@ fn code_there(f: &[u8], h: Header, name: Span, i: u16) -> u16
 
 // A section by its name: its record, UNDEF's, or the slot.
 fn code_by_name(f: &[u8], h: Header, ranks: &[u16], name: Span) -> u16
-    requires { ⌜ now ranks ≡ sectionRanks By.Name (now f) h ⌝ }
+    requires { ⌜ now ranks ≡ sectionRanks (now f) h ⌝ }
     ensures { λ r. ⌜ r ≡ codeByName (now (f .entry)) h (spanText (now (f .entry)) name) ⌝ }
 {
     let p = first_named(f, h, ranks, name);
@@ -213,7 +211,7 @@ fn fill_drafts(f: &[u8], h: Header, codes: &mut [u16]) -> bool
 
 // The code of record j, once its section is found.
 fn settled_code(f: &[u8], h: Header, ranks: &[u16], c: u16, j: u32) -> u16
-    requires { ⌜ now ranks ≡ sectionRanks By.Name (now f) h ⌝ }
+    requires { ⌜ now ranks ≡ sectionRanks (now f) h ⌝ }
     ensures { λ r. ⌜ r ≡ finalCode (now (f .entry)) h c j ⌝ }
 {
     if c == NAMED {
@@ -225,7 +223,7 @@ fn settled_code(f: &[u8], h: Header, ranks: &[u16], c: u16, j: u32) -> u16
 
 // A second pass, for those whose sections are looked for by name.
 fn name_codes(f: &[u8], h: Header, ranks: &[u16], codes: &mut [u16])
-    requires { ⌜ now ranks ≡ sectionRanks By.Name (now f) h ⌝ }
+    requires { ⌜ now ranks ≡ sectionRanks (now f) h ⌝ }
     ensures { λ _. ⌜ now (codes .exit) ≡ splice (now (codes .entry)) 0 (finalCodes (now (f .entry)) h (now (codes .entry)) (h .symbols)) ⌝ }
 {
     let n = h.symbols;
@@ -242,7 +240,7 @@ fn name_ranked(f: &[u8], h: Header, ranks: &mut [u16], codes: &mut [u16])
     requires { ⌜ (length (now ranks) ≡ h .sections) × (h .sections ≤ MAX-SECTIONS) ⌝ }
     ensures { λ _. ⌜ now (codes .exit) ≡ splice (now (codes .entry)) 0 (finalCodes (now (f .entry)) h (now (codes .entry)) (h .symbols)) ⌝ }
 {
-    ranks::fill_ranks(f, h, By::Name, ranks);
+    ranks::fill_ranks(f, h, ranks);
     name_codes(f, h, ranks, codes);
 }
 

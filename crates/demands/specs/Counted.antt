@@ -5,10 +5,10 @@ use lib.ListN.{length, replicate}
 use Rattle.arch.specs.Page.{PAGE-SIZE}
 use Rattle.object.specs.Format.{headerOf}
 use Rattle.object.specs.Section.{relocationCount}
-use Rattle.layout.specs.Layout.{mappedPages, undefStart, startsTo}
+use Rattle.layout.specs.Layout.{mappedPages, undefStart}
 use Rattle.externs.specs.Externs.{externs}
 use Rattle.survey.specs.Survey.{outcomes}
-use Rattle.homes.specs.Home.{sectionHome, homeRecords}
+use Rattle.homes.specs.Home.{sectionHome, homeRecord}
 use Rattle.symbol_table.specs.Symbols.{symbolTable}
 use Rattle.tables.specs.Sections.{sectionTable}
 use Rattle.tables.specs.Externs.{externTable}
@@ -34,11 +34,11 @@ fixTableOf f base = fixTable base (outcomes f (headerOf f)) (relocationCount f (
 
 -- the section table at the base
 abbrev pub sectionsOf : List ℕ → ℕ → List ℕ
-sectionsOf f base = sectionTable f (headerOf f) base (startsTo f (headerOf f) (headerOf f .sections)) (undefStart f (headerOf f))
+sectionsOf f base = sectionTable f (headerOf f) base (sectionHome f (headerOf f)) (undefStart f (headerOf f))
 
 -- the symbol table at the base
 abbrev pub symbolsOf : List ℕ → ℕ → List ℕ
-symbolsOf f base = symbolTable f (headerOf f) base (sectionHome f (headerOf f)) (homeRecords f (headerOf f) (headerOf f .sections))
+symbolsOf f base = symbolTable f (headerOf f) base (sectionHome f (headerOf f)) (homeRecord f (headerOf f))
 
 -- and the table of extern names
 abbrev pub externsOf : List ℕ → ℕ → List ℕ

@@ -6,7 +6,7 @@ use mathlib.Core.List.{List}
 use mathlib.Core.Logic.{_⊎_, inl, inr, ⊎-elim}
 use Prim.Native.Nat.{ℕ, zero, suc, _+_, _-_, _*_, _/_, _%_, _^_, _≤_, _<_}
 use native.Mathlib.Omega.{arith}
-use lib.Dec.{eqb, leb, ltb}
+use lib.Dec.{eqb, leb}
 use lib.ListN.{length}
 use borrow.Author.Tests.{leb-true}
 use Rattle.util.specs.Pick.{pick, and-right, yes-no}
@@ -32,8 +32,8 @@ use Rattle.kinds.specs.declared.RelocationType.{RelocationType}
 use Rattle.kinds.specs.Types.{typeOf}
 use Rattle.names.specs.Name.{symbolText}
 use Rattle.layout.specs.Layout.{startAt, undefStart}
-use Rattle.homes.specs.declared.Home.the-variants.{Loaded}
-use Rattle.homes.specs.Home.{homeOf, homeStart, sectionHome, byNumber}
+use Rattle.homes.specs.Home.{sectionHome, byNumber}
+use Rattle.homes.specs.HomeLaws.{home-own}
 use Rattle.rules.specs.declared.Rule.{Rule}
 use Rattle.rules.specs.declared.Rule.the-variants as rules
 use Rattle.rules.specs.Rule.{dataRule, sectionRule, labelRule, unknownRule, ruleOf}
@@ -125,19 +125,6 @@ module _ (f : List ℕ) (i k : ℕ) where
       standardValue (typeNamed .kind) (typeNamed .addend) base (symbolAddress base) (placeAddress base) fieldOf (base + symbolStart f named)
 
 -- ---- where our modules stay: one symbol a section, at its start, and zero fields
--- section i is its own home: it is loaded, and no loaded section before it has its file start
-abbrev pub OwnHome : List ℕ → ℕ → Type 0
-OwnHome f i = homeOf f (headerOf f) i ≡ Loaded i
-
--- so is the section of a symbol, if it has one
-abbrev pub OwnPlace : List ℕ → Place → Type 0
-OwnPlace f (places.In n) = OwnHome f (n - 1)
-OwnPlace f places.Undefined = Unit {0}
-OwnPlace f places.Common = Unit {0}
-OwnPlace f places.Absolute = Unit {0}
-OwnPlace f places.Nowhere = Unit {0}
-OwnPlace f places.Other = Unit {0}
-
 -- a symbol is looked for by its section's number or put among the externs; left out are sections looked for by name, and unknown kinds
 abbrev pub Direct : Rule → Type 0
 Direct (rules.Section n) = Unit {0}
@@ -146,10 +133,8 @@ Direct rules.Slot = ⊥
 Direct rules.Name = ⊥
 Direct rules.Refused = ⊥
 
--- a relocation as our modules have them: sections their own homes, an absolute or relative type, symbol value and field 0
+-- a relocation as our modules have them: an absolute or relative type, symbol value and field 0
 pub record Stays (f : List ℕ) (i k : ℕ) : Type 0 where
-  pub place-own : OwnHome f i
-  pub symbol-own : OwnPlace f (symbolPlace f (headerOf f) (named f i k))
   pub direct : Direct (symbolRule f (headerOf f) (named f i k))
   pub carried : (typeNamed f i k .kind ≡ Absolute) ⊎ (typeNamed f i k .kind ≡ Relative)
   pub value : symbolValue f (headerOf f) (named f i k) ≡ 0
@@ -175,24 +160,12 @@ module _ (f : List ℕ) where
   abbrev h : Header
   h = headerOf f
 
-  -- a section that is its own home starts where it starts
-  own-start : (i : ℕ) (o : RVA) → OwnHome f i → sectionHome f h i ≡ At o → o .0 ≡ startAt f h i
-  unfolding sectionHome homeStart pick
-  own-start i o own e =
-      ⊎-elim (λ t.
-      let y : homeStart f h (homeOf f h i) ≡ At o = rw t at e in
-      let z : At (rva (startAt f h i)) ≡ At o = rw own at y in
-      sym (at-same (rva (startAt f h i)) o z))
-      (λ t. let z : None ≡ At o = rw t at e in absurd (none-not-at o z))
-      (yes-no (ltb i (h .sections)))
-
-  in-section : (n : ℕ) (o : RVA) → OwnHome f (n - 1) → reached (homeTarget (byNumber (sectionHome f h) None n)) ≡ At o → o .0 ≡ startAt f h (n - 1)
+  in-section : (n : ℕ) (o : RVA) → reached (homeTarget (byNumber (sectionHome f h) None n)) ≡ At o → o .0 ≡ startAt f h (n - 1)
   unfolding byNumber homeTarget
-  in-section zero o own e = absurd (none-not-at o e)
-  in-section (suc m) o own e =
+  in-section zero o e = absurd (none-not-at o e)
+  in-section (suc m) o e =
       let z : suc m - 1 ≡ m = omega arith in
-      let y : OwnHome f m = rw z at own in
-      rw z (own-start m o y (sym (home-reached (sectionHome f h m)) ∙ e))
+      rw z (home-own f h m o (sym (home-reached (sectionHome f h m)) ∙ e) .start)
 
   in-slot : (s : Found) (o : RVA) → reached (slotTarget (undefStart f h) s) ≡ At o → o .0 ≡ slotStart f s
   unfolding slotTarget
@@ -204,55 +177,55 @@ module _ (f : List ℕ) where
     byRule r = ruleTarget f h (sectionHome f h) (undefStart f h) (slotOf f h (externs f h)) r j
 
     abbrev Starts : Place → Rule → Type 0
-    Starts p r = OwnPlace f p → Direct r → (o : RVA) → reached (byRule r) ≡ At o → o .0 ≡ startBy f j p
+    Starts p r = Direct r → (o : RVA) → reached (byRule r) ≡ At o → o .0 ≡ startBy f j p
 
     by-number : (n : ℕ) → Starts (places.In n) (rules.Section n)
     unfolding ruleTarget
-    by-number n own d o e = in-section n o own e
+    by-number n d o e = in-section n o e
 
     by-name : (o : RVA) → reached (byRule rules.Extern) ≡ At o → o .0 ≡ slotNamed f j
     unfolding ruleTarget
     by-name o e = in-slot (slotOf f h (externs f h) (symbolText f h j)) o e
 
     data-starts : (p : Place) → Starts p (dataRule p)
-    data-starts (places.In n) own d = by-number n own d
-    data-starts places.Undefined own d = by-name
-    data-starts places.Common own d = by-name
-    data-starts places.Other own d = by-name
-    data-starts places.Absolute own d = absurd d
-    data-starts places.Nowhere own d = absurd d
+    data-starts (places.In n) d = by-number n d
+    data-starts places.Undefined d = by-name
+    data-starts places.Common d = by-name
+    data-starts places.Other d = by-name
+    data-starts places.Absolute d = absurd d
+    data-starts places.Nowhere d = absurd d
 
     section-starts : (p : Place) → Starts p (sectionRule p)
-    section-starts (places.In n) own d = by-number n own d
-    section-starts places.Undefined own d = absurd d
-    section-starts places.Common own d = absurd d
-    section-starts places.Other own d = absurd d
-    section-starts places.Absolute own d = absurd d
-    section-starts places.Nowhere own d = absurd d
+    section-starts (places.In n) d = by-number n d
+    section-starts places.Undefined d = absurd d
+    section-starts places.Common d = absurd d
+    section-starts places.Other d = absurd d
+    section-starts places.Absolute d = absurd d
+    section-starts places.Nowhere d = absurd d
 
     label-starts : (p : Place) → Starts p (labelRule p)
-    label-starts (places.In n) own d = by-number n own d
-    label-starts places.Undefined own d = absurd d
-    label-starts places.Common own d = absurd d
-    label-starts places.Other own d = absurd d
-    label-starts places.Absolute own d = absurd d
-    label-starts places.Nowhere own d = absurd d
+    label-starts (places.In n) d = by-number n d
+    label-starts places.Undefined d = absurd d
+    label-starts places.Common d = absurd d
+    label-starts places.Other d = absurd d
+    label-starts places.Absolute d = absurd d
+    label-starts places.Nowhere d = absurd d
 
     unknown-starts : (p : Place) → Starts p (unknownRule p)
-    unknown-starts (places.In n) own d = absurd d
-    unknown-starts places.Undefined own d = absurd d
-    unknown-starts places.Common own d = by-name
-    unknown-starts places.Other own d = absurd d
-    unknown-starts places.Absolute own d = absurd d
-    unknown-starts places.Nowhere own d = absurd d
+    unknown-starts (places.In n) d = absurd d
+    unknown-starts places.Undefined d = absurd d
+    unknown-starts places.Common d = by-name
+    unknown-starts places.Other d = absurd d
+    unknown-starts places.Absolute d = absurd d
+    unknown-starts places.Nowhere d = absurd d
 
     rule-starts : (k : SymbolKind) (p : Place) → Starts p (ruleOf k p)
-    rule-starts kinds.Data p own d = data-starts p own d
-    rule-starts kinds.Text p own d = data-starts p own d
-    rule-starts kinds.Section p own d = section-starts p own d
-    rule-starts kinds.Label p own d = label-starts p own d
-    rule-starts kinds.Unknown p own d = unknown-starts p own d
-    rule-starts kinds.File p own d = absurd d
+    rule-starts kinds.Data p d = data-starts p d
+    rule-starts kinds.Text p d = data-starts p d
+    rule-starts kinds.Section p d = section-starts p d
+    rule-starts kinds.Label p d = label-starts p d
+    rule-starts kinds.Unknown p d = unknown-starts p d
+    rule-starts kinds.File p d = absurd d
 
     by-record : (o : RVA) → reached (targets f h j) ≡ At o → reached (byRule (symbolRule f h j)) ≡ At o
     unfolding targetOf pick
@@ -264,8 +237,9 @@ module _ (f : List ℕ) where
         (λ u. let z : None ≡ At o = rw u at y in absurd (none-not-at o z)) (yes-no (primary f h j)))
         (yes-no (leb (h .symbols) j))
 
-    symbol-starts : OwnPlace f (symbolPlace f h j) → Direct (symbolRule f h j) → (o : RVA) → Reaches (targets f h j) o → o .0 ≡ symbolStart f j
-    symbol-starts own d o r = rule-starts (kind f h j) (symbolPlace f h j) own d o (by-record o (reached-is (targets f h j) o r))
+    -- S less the symbol's value: a target by a section's number starts where that section does
+    pub symbol-own : Direct (symbolRule f h j) → (o : RVA) → Reaches (targets f h j) o → o .0 ≡ symbolStart f j
+    symbol-own d o r = rule-starts (kind f h j) (symbolPlace f h j) d o (by-record o (reached-is (targets f h j) o r))
 
 -- ---- absolute and relative fixups over zero fields have the standard's value, with the symbol at the target
 pub standard-met : (base : ℕ) (x : Fix) (start : ℕ) → base ≤ MAX-BASE → Exact x → (x .kind ≡ Absolute) ⊎ (x .kind ≡ Relative)
@@ -289,6 +263,14 @@ fixups-from f k =
     every-fixup (From f) (outcomes f (headerOf f)) (relocationCount f (headerOf f)) (headerOf f .sections)
     (λ i j x a b e. record { section = i; index = j; inside = a; counted = b; is = e }) k noFixup
 
+-- P: every fixup lies as far behind the start of its relocation's own section as the address field says
+pub place-own : (f : List ℕ) (x : Fix) (r : From f x) → x .place .0 ≡ startAt f (headerOf f) (r .section) + relocationAddress f (headerOf f) (r .section) (r .index)
+place-own f x r =
+    let w = fix-from (archBy (archOf (headerOf f .machine))) f (headerOf f) (sectionHome f (headerOf f)) (targets f (headerOf f)) (r .section) (r .index) x (r .is) in
+    let at : x .place .0 ≡ w .start .0 + relocationAddress f (headerOf f) (r .section) (r .index) = ap (λ (y : Fix). y .place .0) (w .resolved .is) in
+    let begin = home-own f (headerOf f) (r .section) (w .start) (w .homed) .start in
+    omega arith
+
 -- the standard's value is that with the fixup's own parts for those of the file
 same-value : (k k′ : RelocationKind) (a a′ base s s′ p p′ z start : ℕ) → k ≡ k′ → a ≡ a′ → s ≡ s′ → p ≡ p′ → z ≡ 0
     → standardValue k a base s p z start ≡ standardValue k′ a′ base s′ p′ 0 start
@@ -304,10 +286,9 @@ standard-of-file f c accepted base ok k l r s =
     let w = fix-from (archBy (archOf (headerOf f .machine))) f (headerOf f) (sectionHome f (headerOf f)) (targets f (headerOf f)) (r .section) (r .index) (fixupAt f k) (r .is) in
     let same : fixupAt f k .kind ≡ typeNamed f (r .section) (r .index) .kind = ap (λ (y : Fix). y .kind) (w .resolved .is) in
     let adds : fixupAt f k .addend ≡ typeNamed f (r .section) (r .index) .addend = ap (λ (y : Fix). y .addend) (w .resolved .is) in
-    let at : fixupAt f k .place .0 ≡ w .start .0 + relocationAddress f (headerOf f) (r .section) (r .index) = ap (λ (y : Fix). y .place .0) (w .resolved .is) in
-    let begin : w .start .0 ≡ startAt f (headerOf f) (r .section) = own-start f (r .section) (w .start) (s .place-own) (w .homed) in
+    let at = place-own f (fixupAt f k) r in
     let reach : fixupAt f k .target .0 ≡ symbolStart f (named f (r .section) (r .index)) =
-    symbol-starts f (named f (r .section) (r .index)) (s .symbol-own) (s .direct) (fixupAt f k .target) (w .resolved .reaches) in
+    symbol-own f (named f (r .section) (r .index)) (s .direct) (fixupAt f k .target) (w .resolved .reaches) in
     let zeroed = s .value in
     same-value _ _ _ _ base _ _ _ _ _ _ (sym same) (sym adds) (omega arith) (omega arith) (s .field)
     ∙ standard-met base (fixupAt f k) (base + symbolStart f (named f (r .section) (r .index))) low (fixups-exact f c accepted k noFixup l)

@@ -15,7 +15,8 @@ use Rattle.arch.specs.Page.{PAGE-SIZE}
 use Rattle.le.specs.Le.{get, le}
 use Rattle.object.specs.Format.{headerOf}
 use Rattle.object.specs.Section.{loaded}
-use Rattle.layout.specs.Layout.{undefStart, startsTo}
+use Rattle.layout.specs.Layout.{undefStart}
+use Rattle.homes.specs.Home.{sectionHome}
 use Rattle.layout.specs.LayoutLaws.{ranges-share-none, undef-behind, undef-fits}
 use Rattle.fixups.specs.Signed.{signed, slot-keeps}
 use Rattle.fixups.specs.Value.{isRelative}
@@ -116,7 +117,7 @@ module _ (f : List ℕ) (c : Counts) (accepted : surveyOf f ≡ Accepted c) wher
 
   image-long : (base : ℕ) → length (imageOf f base) ≡ PAGE-SIZE * pagesOf f
   image-long base =
-      length-laid f (headerOf f) (startsTo f (headerOf f) (headerOf f .sections)) (pagesOf f) base (undefStart f (headerOf f)) (slotsOf f) (replicate (PAGE-SIZE * pagesOf f) 0)
+      length-laid f (headerOf f) (sectionHome f (headerOf f)) (pagesOf f) base (undefStart f (headerOf f)) (slotsOf f) (replicate (PAGE-SIZE * pagesOf f) 0)
       ∙ length-replicate (PAGE-SIZE * pagesOf f) 0
 
   module _ (base : ℕ) (ok : baseOk base ≡ true) where

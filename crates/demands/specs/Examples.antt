@@ -24,7 +24,8 @@ use Rattle.object.specs.Symbol.{leftAfter, auxiliariesLeft, primary, isSymbol}
 use Rattle.kinds.specs.Symbol.{isFunction, codeOrData, kindBy, zeroPlace, placeBy, listedBy}
 use Rattle.names.specs.Bytes.{upToZero, sameBytes}
 use Rattle.names.specs.Name.{leftFrom, longSpan, spanAt}
-use Rattle.homes.specs.Home.{firstIn, isHome, homeStart, homeRecord, sectionHome, byNumber}
+use Rattle.ranks.specs.Named.{firstIn}
+use Rattle.homes.specs.Home.{sectionHome, homeRecord, startOf, byNumber}
 use Rattle.homes.specs.Listed.{ofPlace, offsetFrom, listed}
 use Rattle.layout.specs.Layout.{nextStart, startAt}
 use Rattle.tables.specs.Sections.{sectionWords}
@@ -58,6 +59,7 @@ use Rattle.storage.specs.Storage.{Storage, storage, stored}
 use Rattle.loading.specs.Load.{roomOk, loadChecks, loadAnswer, Loads}
 use Rattle.demands.specs.Calls.{Call}
 use Rattle.demands.specs.Origin.{fixupAt, fixupValue}
+use Rattle.demands.specs.Held.{startsAlone, isHeld}
 use Rattle.demands.specs.Demand2.{standardAt, From, Stays, standard-of-file}
 use Rattle.demands.specs.Demand3.{imageAfter, answersAfter, Demand3}
 use Rattle.demands.specs.Loaded.{Lends, load-lends, lentFrom, load-demand-3}
@@ -159,17 +161,22 @@ small-runs calls answers =
     runs-are 0x20000000 _ _ calls _ _ answers _ refl refl .demand smallObject smallCounts (table .small) small-base
     (small-lends .image) (small-lends .marks) (small-lends .fixes) 0x7F000000 (table .base-taken)
 
--- ---- the small object's fixup, from relocation 0 of section 0: relative, by an extern name of value 0, over a field of zeros, in a section that is its own home
+-- ---- the small object's fixup, from relocation 0 of section 0: relative, by an extern name of value 0, over a field of zeros
 pub small-standard : standardAt smallObject 0 0 0x20000000 ≡ fixupValue smallObject 0x20000000 0
 unfolding pick listTo foldRecords foldSections archOf get le part headerOf type32 typeOf loadedBy fileStart fileEnd
     extended relocationRecords relocationCount relocationStart isFunction codeOrData kindBy zeroPlace placeBy leftAfter auxiliariesLeft primary isSymbol
-    upToZero sameBytes leftFrom longSpan spanAt firstIn isHome homeStart sectionHome byNumber startAt
+    upToZero sameBytes leftFrom longSpan spanAt firstIn sectionHome byNumber startAt
     insertName externStep putsBy puts slotFrom appendStep fixAtRecord byKind resolved outcomeAt outcome relocationIn ruleTarget targetOf
     homeTarget slotTarget
 small-standard =
     let r : From smallObject (fixupAt smallObject 0) = record { section = 0; index = 0; inside = omega arith; counted = omega arith; is = refl } in
-    let s : Stays smallObject 0 0 = record { place-own = refl; symbol-own = tt; direct = tt; carried = inr refl; value = refl; field = refl } in
+    let s : Stays smallObject 0 0 = record { direct = tt; carried = inr refl; value = refl; field = refl } in
     standard-of-file smallObject smallCounts (table .small) 0x20000000 small-base 0 (omega arith) r s
+
+-- ---- it is held against the Rust, so that its homes are the Rust's (`held-homes`)
+pub small-held : isHeld smallObject (headerOf smallObject) ≡ true
+unfolding pick allTo get le headerOf fileStart startsAlone
+small-held = refl
 
 -- ---- the small object has no skips, so every relocation of its loaded section is in the fix list
 pub small-all-fixed : (k : ℕ) → k < relocationCount smallObject (headerOf smallObject) 0 → IsFixed smallObject smallCounts (table .small) 0 k
@@ -203,5 +210,5 @@ pub record SmallRoutines : Type 0 where
 
 pub small-routines : SmallRoutines
 unfolding pick allTo countTo listTo get le headerOf loadedBy permissionsBy fileStart fileEnd rangeLength alignOf roundUp isFunction codeOrData kindBy zeroPlace placeBy listedBy leftAfter auxiliariesLeft primary
-    firstIn isHome homeStart homeRecord sectionHome byNumber startAt nextStart ofPlace offsetFrom listed sectionWords symbolWords picked wordBytes wordOf firstOf lastTo isGreatest qualifies withDistance ofHolder
+    homeRecord sectionHome startOf byNumber startAt nextStart ofPlace offsetFrom listed sectionWords symbolWords picked wordBytes wordOf firstOf lastTo isGreatest qualifies withDistance ofHolder
 small-routines = record { inside = refl; last-byte = refl; behind = refl; undef = refl }

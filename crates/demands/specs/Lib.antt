@@ -14,4 +14,5 @@ pub mod Running
 pub mod Table
 pub mod Demand1
 pub mod Demand2
+pub mod Held
 pub mod Examples

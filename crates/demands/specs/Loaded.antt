@@ -10,7 +10,8 @@ use lib.Seq.{ext-getD}
 use Rattle.arch.specs.Page.{PAGE-SIZE}
 use Rattle.le.specs.Le.{part, part-at, length-part}
 use Rattle.object.specs.Format.{headerOf}
-use Rattle.layout.specs.Layout.{startsTo, undefStart}
+use Rattle.layout.specs.Layout.{undefStart}
+use Rattle.homes.specs.Home.{sectionHome}
 use Rattle.limits.specs.Limits.{MAX-PAGES, MAX-EXTERNS}
 use Rattle.limits.specs.Records.{FIXUP-BYTES, EXTERN-BYTES, SECTION-BYTES}
 use Rattle.survey.specs.declared.answer.Counts.{Counts}
@@ -37,7 +38,7 @@ module _ (f : List ℕ) (base : ℕ) (image : List ℕ) (few : pagesOf f ≤ MAX
   zeros = length-replicate {A = ℕ} (PAGE-SIZE * pagesOf f) 0
 
   laid-long : (i : List ℕ) → length (laidImage f (headerOf f) base (slotsOf f) i) ≡ length i
-  laid-long i = length-laid f (headerOf f) (startsTo f (headerOf f) (headerOf f .sections)) (pagesOf f) base (undefStart f (headerOf f)) (slotsOf f) i
+  laid-long i = length-laid f (headerOf f) (sectionHome f (headerOf f)) (pagesOf f) base (undefStart f (headerOf f)) (slotsOf f) i
 
   part-long : length (part (laidImage f (headerOf f) base (slotsOf f) image) 0 (PAGE-SIZE * pagesOf f)) ≡ PAGE-SIZE * pagesOf f
   part-long = length-part (laidImage f (headerOf f) base (slotsOf f) image) 0 (PAGE-SIZE * pagesOf f) (rw (laid-long image) (omega arith))

@@ -3,13 +3,13 @@ use mathlib.Core.Path.{_≡_, subst, _∙_}
 use mathlib.Core.Bool.{true, _&&_}
 use mathlib.Core.List.{List}
 use mathlib.Core.Logic.{⊎-elim}
-use Prim.Native.Nat.{ℕ, _+_, _*_, _%_, _^_, _≤_, _<_}
+use Prim.Native.Nat.{ℕ, _+_, _*_, _≤_, _<_}
 use native.Mathlib.Omega.{arith}
 use lib.Dec.{eqb, leb}
-use lib.ListN.{length, getD}
+use lib.ListN.{length}
 use borrow.Author.Tests.{leb-true}
 use Rattle.util.specs.Pick.{pick, yes-no, and-left, and-right}
-use Rattle.util.specs.Prefix.{list-at, all-at}
+use Rattle.util.specs.Prefix.{all-at}
 use Rattle.limits.specs.Limits.{MAX-FILE, MAX-BASE}
 use Rattle.limits.specs.Records.{SECTION-WORDS, SECTION-BYTES, SECTION-START, SECTION-END, SECTION-FILE-START, SECTION-FILE-END, EXTERN-WORDS, ADDRESS}
 use Rattle.arch.specs.Page.{PAGE-SIZE}
@@ -17,8 +17,10 @@ use Rattle.object.specs.declared.Header.{Header}
 use Rattle.object.specs.Format.{HEADER-SIZE, headerOf, addressField}
 use Rattle.object.specs.Section.{loaded, uninitialized, fileStart, fileEnd, rangeLength}
 use Rattle.bounds.specs.Bounds.{sizeOk, bytesOk, dataOk, relocationsOk, sectionOk, sectionsOk}
-use Rattle.layout.specs.Layout.{startAt, undefStart, recordOf, startsTo}
-use Rattle.layout.specs.LayoutLaws.{undef-behind, undef-fits, starts-fit}
+use Rattle.layout.specs.Layout.{undefStart, recordOf}
+use Rattle.layout.specs.LayoutLaws.{undef-behind, undef-fits}
+use Rattle.homes.specs.Home.{sectionHome}
+use Rattle.homes.specs.HomeLaws.{loaded-start}
 use Rattle.externs.specs.Externs.{externs}
 use Rattle.words.specs.Words.{wordOf}
 use Rattle.tables.specs.TableLaws.{SectionAt, UndefAt, ExternAt, sections-fill, section-read, undef-read, length-externs, extern-read}
@@ -69,24 +71,19 @@ module _ (f : List ℕ) (c : Counts) (accepted : surveyOf f ≡ Accepted c) (bas
     unfolding fileStart fileEnd pick
     file-forward = ⊎-elim (λ u. rw u (omega arith)) (λ u. rw u (omega arith)) (yes-no (uninitialized f h i))
 
-    start-kept : getD (startsTo f h (h .sections)) i 0 ≡ startAt f h i
-    start-kept =
-        let s = starts-fit f h (pages-few f c accepted) i (omega arith) in
-        list-at (λ k. startAt f h k % 2 ^ 32) 0 (h .sections) i inside ∙ omega arith
-
     sections-room : SECTION-BYTES * (recordOf f h (h .sections) + 1) ≤ length (sectionsOf f base)
-    sections-room = let e = sections-fill f h base (startsTo f h (h .sections)) (undefStart f h) in omega arith
+    sections-room = let e = sections-fill f h base (sectionHome f h) (undefStart f h) in omega arith
 
-    section-words : SectionAt (sectionsOf f base) (recordOf f h i) f h base (startsTo f h (h .sections)) i
+    section-words : SectionAt (sectionsOf f base) (recordOf f h i) f h base (sectionHome f h) i
     section-words =
-        subst (λ (t : List ℕ). SectionAt t (recordOf f h i) f h base (startsTo f h (h .sections)) i) (splice-self (sectionsOf f base))
-        (section-read f h base (startsTo f h (h .sections)) (undefStart f h) (sectionsOf f base) sections-room i inside loads)
+        subst (λ (t : List ℕ). SectionAt t (recordOf f h i) f h base (sectionHome f h) i) (splice-self (sectionsOf f base))
+        (section-read f h base (sectionHome f h) (undefStart f h) (sectionsOf f base) sections-room i inside loads)
 
     -- the record of each loaded section has its range and its file range
     pub range-read : RangeRead f base (sectionsOf f base) i
     range-read =
         let w = section-words in
-        let s = start-kept in
+        let s = loaded-start f h i inside loads in
         let u = undef-fits f h (pages-few f c accepted) in
         let e = undef-behind f h i loads inside in
         let n = size-fits in
@@ -101,9 +98,9 @@ module _ (f : List ℕ) (c : Counts) (accepted : surveyOf f ≡ Accepted c) (bas
 
   undef-words : UndefAt (sectionsOf f base) (recordOf f h (h .sections)) base (undefStart f h)
   undef-words =
-      let e = sections-fill f h base (startsTo f h (h .sections)) (undefStart f h) in
+      let e = sections-fill f h base (sectionHome f h) (undefStart f h) in
       subst (λ (t : List ℕ). UndefAt t (recordOf f h (h .sections)) base (undefStart f h)) (splice-self (sectionsOf f base))
-      (undef-read f h base (startsTo f h (h .sections)) (undefStart f h) (sectionsOf f base) (omega arith))
+      (undef-read f h base (sectionHome f h) (undefStart f h) (sectionsOf f base) (omega arith))
 
   -- and the last one UNDEF's page
   pub undef-is-read : UndefRead f base (sectionsOf f base)

@@ -18,7 +18,7 @@ use Rattle.symbol_table.specs.Symbols.{symbolWords}
 use Rattle.tables.specs.Externs.{externWords}
 use Rattle.lists.specs.Relocations.{fixWords}
 use Rattle.externs.specs.Externs.{externs, insertName, externStep}
-use Rattle.layout.specs.Layout.{undefStart, nextStart, startAt, startsTo}
+use Rattle.layout.specs.Layout.{undefStart, nextStart, startAt}
 use Rattle.good_names.specs.GoodNames.{namesOk}
 use Rattle.checks.specs.Checks.{baseOk}
 use Rattle.storage.specs.Storage.{Storage}
@@ -44,8 +44,9 @@ use Rattle.kinds.specs.Symbol.{isFunction, codeOrData, staticKind, kindBy, zero
 use Rattle.words.specs.Picked.{chosen}
 use Rattle.names.specs.Bytes.{run, upToZero, goodSectionName, goodSymbolName, decimalTo, compareBytes, sameBytes}
 use Rattle.names.specs.Name.{nameBytes, longRun, symbolRun, slashRun, sectionRun, checked, leftFrom, longSpan, spanAt}
-use Rattle.homes.specs.declared.Home.the-variants.{Loaded}
-use Rattle.homes.specs.Home.{firstIn, isHome, homeOf, loadedNamed, homeStart, homeRecord, sectionHome, byNumber, homeRecords}
+use Rattle.arch.specs.declared.Offset.the-variants.{At}
+use Rattle.ranks.specs.Named.{firstIn, loadedNamed}
+use Rattle.homes.specs.Home.{sectionHome, homeRecord, recordStart, startOf, byNumber}
 use Rattle.bounds.specs.Bounds.{sizeOk, machineOk, sectionTableOk, stringsOk, symbolTableOk, bytesOk, dataOk, relocationsOk, sectionsOk}
 use Rattle.codes.specs.Puts.{putsBy, puts}
 use Rattle.externs.specs.Slot.{slotFrom}
@@ -150,9 +151,9 @@ most-words = ap (fixWords 0x20000000) most-fixup
 pub record Table : Type 0 where
   -- the small object at 0x20000000: layout, symbol, slot, and the fixup with its value
   pub small : surveyOf smallObject ≡ Accepted smallCounts
-  pub small-text : sectionWords smallObject (headerOf smallObject) 0x20000000 (startsTo smallObject (headerOf smallObject) 1) 0 ≡ 0x20000000 ∷ 0x20000010 ∷ 60 ∷ 66 ∷ 5 ∷ 20 ∷ 5 ∷ 1 ∷ []
+  pub small-text : sectionWords smallObject (headerOf smallObject) 0x20000000 (sectionHome smallObject (headerOf smallObject)) 0 ≡ 0x20000000 ∷ 0x20000010 ∷ 60 ∷ 66 ∷ 5 ∷ 20 ∷ 5 ∷ 1 ∷ []
   pub small-undef : undefWords 0x20000000 (undefStart smallObject (headerOf smallObject)) ≡ 0x20001000 ∷ 0x20002000 ∷ 0 ∷ 0 ∷ 1 ∷ 0 ∷ 0 ∷ 0 ∷ []
-  pub small-symbol : symbolWords smallObject (headerOf smallObject) 0x20000000 (sectionHome smallObject (headerOf smallObject)) (homeRecords smallObject (headerOf smallObject) 1) 0 ≡ 0x20000000 ∷ 1 ∷ 76 ∷ 6 ∷ 0 ∷ 0 ∷ []
+  pub small-symbol : symbolWords smallObject (headerOf smallObject) 0x20000000 (sectionHome smallObject (headerOf smallObject)) (homeRecord smallObject (headerOf smallObject)) 0 ≡ 0x20000000 ∷ 1 ∷ 76 ∷ 6 ∷ 0 ∷ 0 ∷ []
   pub small-slot : externWords smallObject (headerOf smallObject) 0x20000000 (undefStart smallObject (headerOf smallObject)) (externs smallObject (headerOf smallObject)) 0 ≡ 0x20001000 ∷ 1 ∷ 94 ∷ 6 ∷ []
   pub small-fixup : fixWords 0x20000000 (fixupAt smallObject 0) ≡ 0x20000001 ∷ 32 ∷ 4091 ∷ []
   -- 19 bytes, whatever they are: 1
@@ -205,8 +206,8 @@ more-sections f s m e = rw (s, m, no-table f (headerOf f) e)
 pub table : Table
 unfolding roundUp pick allTo anyTo sumTo countTo listTo archOf get le part headerOf stringLength type32 type64 typeOf loadedBy alignOf permissionsBy fileStart fileEnd
     rangeLength extended relocationRecords relocationCount relocationStart isFunction codeOrData staticKind kindBy zeroPlace placeBy listedBy primary
-    run upToZero goodSectionName goodSymbolName decimalTo compareBytes sameBytes nameBytes longRun symbolRun slashRun sectionRun checked leftFrom longSpan spanAt firstIn isHome
-    loadedNamed homeStart homeRecord sectionHome byNumber nextStart startAt sizeOk sectionTableOk stringsOk symbolTableOk bytesOk dataOk relocationsOk sectionsOk
+    run upToZero goodSectionName goodSymbolName decimalTo compareBytes sameBytes nameBytes longRun symbolRun slashRun sectionRun checked leftFrom longSpan spanAt firstIn
+    loadedNamed recordStart homeRecord sectionHome startOf byNumber nextStart startAt sizeOk sectionTableOk stringsOk symbolTableOk bytesOk dataOk relocationsOk sectionsOk
     okAt namesOk insertName externStep putsBy puts slotFrom appendStep fixAtRecord skipAtRecord byKind resolved outcomeAt outcome relocationIn ruleTarget targetOf
     countStep tallyOf homeTarget slotTarget namedTarget valueOf ofPlace offsetFrom listed firstFailed countsBy answerBy
     foldRecords foldSections leftAfter auxiliariesLeft isSymbol sectionWords symbolWords
@@ -252,8 +253,8 @@ small-demand-3 calls = demand-3 smallObject smallCounts (table .small) 0 0x7F000
 pub small-patched : getD (imageAfter 0x20000000 (lentOf smallObject 0x20000000) (patch 1 0 ∷ [])) 1 0 ≡ 0xFB
 unfolding roundUp pick allTo anyTo sumTo countTo listTo archOf get le part headerOf stringLength type32 type64 typeOf loadedBy alignOf permissionsBy fileStart fileEnd
     rangeLength extended relocationRecords relocationCount relocationStart isFunction codeOrData staticKind kindBy zeroPlace placeBy listedBy primary
-    run upToZero goodSectionName goodSymbolName decimalTo compareBytes sameBytes nameBytes longRun symbolRun slashRun sectionRun checked leftFrom longSpan spanAt firstIn isHome
-    loadedNamed homeStart homeRecord sectionHome byNumber nextStart startAt sizeOk sectionTableOk stringsOk symbolTableOk bytesOk dataOk relocationsOk sectionsOk
+    run upToZero goodSectionName goodSymbolName decimalTo compareBytes sameBytes nameBytes longRun symbolRun slashRun sectionRun checked leftFrom longSpan spanAt firstIn
+    loadedNamed recordStart homeRecord sectionHome startOf byNumber nextStart startAt sizeOk sectionTableOk stringsOk symbolTableOk bytesOk dataOk relocationsOk sectionsOk
     okAt namesOk insertName externStep putsBy puts slotFrom appendStep fixAtRecord skipAtRecord byKind resolved outcomeAt outcome relocationIn ruleTarget targetOf
     countStep tallyOf homeTarget slotTarget namedTarget valueOf ofPlace offsetFrom listed firstFailed countsBy answerBy
     foldRecords foldSections leftAfter auxiliariesLeft isSymbol sectionWords symbolWords
@@ -261,22 +262,22 @@ unfolding roundUp pick allTo anyTo sumTo countTo listTo archOf get le part heade
     chosen asked appliedBy applied covers latest originBy byteOf
 small-patched = demand-3 smallObject smallCounts (table .small) 0x20000000 0x20000000 refl refl (patch 1 0 ∷ []) .one .bytes 1 (omega arith)
 
--- ---- where a section is not its own home the standard's value is another: two uninitialised sections share the first one's start
-pub record SharedHome : Type 0 where
+-- ---- two uninitialised sections have two homes, and a fixup to a symbol of the second has the standard's value (02, N3)
+pub record TwoUninitialized : Type 0 where
   pub accepted : surveyOf twoUninitialized ≡ Accepted (countsWith 4 3 1 0 1 2 1 1)
-  pub home : homeOf twoUninitialized (headerOf twoUninitialized) 1 ≡ Loaded 0
-  pub start : startAt twoUninitialized (headerOf twoUninitialized) 1 ≡ 0x1000
-  pub ours : fixupValue twoUninitialized 0x20000000 0 ≡ 0x20000000
+  pub first : sectionHome twoUninitialized (headerOf twoUninitialized) 0 ≡ At (rva 0)
+  pub second : sectionHome twoUninitialized (headerOf twoUninitialized) 1 ≡ At (rva 0x1000)
+  pub ours : fixupValue twoUninitialized 0x20000000 0 ≡ 0x20001000
   pub standard : standardAt twoUninitialized 0 0 0x20000000 ≡ 0x20001000
 
 -- each of these holds
-pub shared-home : SharedHome
+pub two-uninitialized : TwoUninitialized
 unfolding roundUp pick allTo anyTo sumTo countTo listTo archOf get le part headerOf stringLength type32 type64 typeOf loadedBy alignOf permissionsBy fileStart fileEnd
     rangeLength extended relocationRecords relocationCount relocationStart isFunction codeOrData staticKind kindBy zeroPlace placeBy listedBy primary
-    run upToZero goodSectionName goodSymbolName decimalTo compareBytes sameBytes nameBytes longRun symbolRun slashRun sectionRun checked leftFrom longSpan spanAt firstIn isHome
-    loadedNamed homeStart homeRecord sectionHome byNumber nextStart startAt sizeOk sectionTableOk stringsOk symbolTableOk bytesOk dataOk relocationsOk sectionsOk
+    run upToZero goodSectionName goodSymbolName decimalTo compareBytes sameBytes nameBytes longRun symbolRun slashRun sectionRun checked leftFrom longSpan spanAt firstIn
+    loadedNamed recordStart homeRecord sectionHome startOf byNumber nextStart startAt sizeOk sectionTableOk stringsOk symbolTableOk bytesOk dataOk relocationsOk sectionsOk
     okAt namesOk insertName externStep putsBy puts slotFrom appendStep fixAtRecord skipAtRecord byKind resolved outcomeAt outcome relocationIn ruleTarget targetOf
     countStep tallyOf homeTarget slotTarget namedTarget valueOf ofPlace offsetFrom listed firstFailed countsBy answerBy
     foldRecords foldSections leftAfter auxiliariesLeft isSymbol sectionWords symbolWords
     externWords fixWords baseOk standardValue
-shared-home = record { accepted = refl; home = refl; start = refl; ours = refl; standard = refl }
+two-uninitialized = record { accepted = refl; first = refl; second = refl; ours = refl; standard = refl }

@@ -3,14 +3,14 @@ use mathlib.Core.Path.{_≡_, refl, sym, ap, subst, _∙_}
 use mathlib.Core.Bool.{Bool, true, false}
 use mathlib.Core.List.{List}
 use mathlib.Core.Logic.{_⊎_, inl, inr, ⊎-elim}
-use Prim.Native.Nat.{ℕ, zero, suc, _+_, _-_, _*_, _/_, _%_, _^_, _≤_, _<_}
+use Prim.Native.Nat.{ℕ, zero, suc, _+_, _-_, _*_, _/_, _^_, _≤_, _<_}
 use native.Mathlib.Omega.{arith}
 use native.Mathlib.Nat.{eq-or-lt-of-le}
 use lib.Dec.{leb, ltb}
 use lib.ListN.{length, getD}
-use borrow.Author.Tests.{leb-true, ltb-true, le-leb, le-ltb, lt-ltb}
-use Rattle.util.specs.Pick.{pick, pick-either, le-or-lt, not-both, and-left, and-right, and-both}
-use Rattle.util.specs.Prefix.{countTo, list-at, length-list}
+use borrow.Author.Tests.{leb-true, ltb-true, le-leb, lt-ltb}
+use Rattle.util.specs.Pick.{pick-either, not-both, and-left, and-right, and-both}
+use Rattle.util.specs.Prefix.{countTo, list-at, length-list, count-most, count-below}
 use Rattle.limits.specs.Limits.{MAX-BASE}
 use Rattle.limits.specs.Records.{SECTION-BYTES, SYMBOL-WORDS, SYMBOL-BYTES, ADDRESS, SYMBOL-NUMBER, SYMBOL-HOME}
 use Rattle.le.specs.Le.{part, IsBytes, get-below}
@@ -23,22 +23,19 @@ use Rattle.refusal.specs.Refusal.{NO-SECTION, NO-ROUTINE}
 use Rattle.object.specs.declared.Header.{Header}
 use Rattle.object.specs.Format.{VALUE-AT, headerOf, symbolRecordAt, symbolValue}
 use Rattle.object.specs.Section.{loaded, rangeLength}
-use Rattle.object.specs.Symbol.{primary, symbolPlace, listedValue}
+use Rattle.object.specs.Symbol.{symbolPlace, listedValue}
 use Rattle.kinds.specs.Symbol.{listedBy}
 use Rattle.kinds.specs.declared.Place.{Place}
 use Rattle.kinds.specs.declared.Place.the-variants as place
-use Rattle.layout.specs.Layout.{recordOf, tableRecords, undefStart, startsTo}
+use Rattle.layout.specs.Layout.{recordOf, tableRecords, undefStart}
 use Rattle.layout.specs.LayoutLaws.{undef-fits}
-use Rattle.homes.specs.Home.{homeOf, homeRecord, homeRecords, sectionHome, byNumber}
-use Rattle.homes.specs.HomeLaws.{section-most, home-first}
-use Rattle.homes.specs.declared.Home.{Home}
-use Rattle.homes.specs.declared.Home.the-variants as home
-use Rattle.homes.specs.Listed.{ofPlace, placeHome, isSome, listed, offsetFrom, listedOffset, listedTotal}
+use Rattle.homes.specs.Home.{hasHome, sectionHome, homeRecord, byNumber}
+use Rattle.homes.specs.HomeLaws.{section-most}
+use Rattle.homes.specs.Listed.{ofPlace, placeHome, listed, offsetFrom, listedOffset, listedTotal}
 use Rattle.words.specs.Words.{wordOf}
-use Rattle.words.specs.Picked.{Chosen, chosen, chosen-is, length-chosen, count-below}
+use Rattle.words.specs.Picked.{Chosen, chosen, chosen-is, length-chosen}
 use Rattle.symbol_table.specs.SymbolLaws.{SymbolAt, symbol-read, symbols-fill}
 use Rattle.tables.specs.TableLaws.{sections-fill}
-use Rattle.marks.specs.MarkLaws.{count-most}
 use Rattle.survey.specs.declared.answer.Counts.{Counts}
 use Rattle.survey.specs.declared.answer.Survey.the-variants.{Accepted}
 use Rattle.survey.specs.Survey.{surveyOf}
@@ -74,7 +71,7 @@ listedAddress f base j = base + listedOffset f (headerOf f) (sectionHome f (head
 
 -- its section's home, by its number in the section table
 abbrev pub symbolHome : List ℕ → ℕ → ℕ
-symbolHome f j = ofPlace (λ i. homeRecord f (headerOf f) (homeOf f (headerOf f) i)) 0 (symbolPlace f (headerOf f) j)
+symbolHome f j = ofPlace (homeRecord f (headerOf f)) 0 (symbolPlace f (headerOf f) j)
 
 -- record r of the section table is loaded section i's, whose range holds the address
 pub record InLoaded (f : List ℕ) (base x r : ℕ) : Type 0 where
@@ -142,32 +139,20 @@ module _ (f : List ℕ) (h : Header) where
   start-most place.Nowhere o e = absurd (none-not-at o e)
   start-most place.Other o e = absurd (none-not-at o e)
 
-  record-most : (i : ℕ) (x : Home) → homeOf f h i ≡ x → homeRecord f h x ≤ h .sections
+  record-most : (i : ℕ) → homeRecord f h i ≤ h .sections
   unfolding homeRecord
-  record-most i (home.Loaded j) e = let a = count-most (loaded f h) j in let b = home-first f h i j e .inside in omega arith
-  record-most i home.Undef e = count-most (loaded f h) (h .sections)
-  record-most i home.Nowhere e = omega arith
+  record-most i =
+      pick-either (λ (z : ℕ). z ≤ h .sections) (hasHome f h i) (recordOf f h i) 0
+      (λ t.
+      let a = count-most (loaded f h) i in
+      let b = ltb-true i (h .sections) (and-left (ltb i (h .sections)) (loaded f h i) t) in
+      omega arith)
+      (omega arith)
 
-  -- the table has the record of a section that has a home
-  record-kept : (p : Place) → isSome (placeHome (sectionHome f h) p) ≡ true
-      → ofPlace (λ i. getD (homeRecords f h (h .sections)) i 0) 0 p ≡ ofPlace (λ i. homeRecord f h (homeOf f h i)) 0 p
-  unfolding ofPlace byNumber sectionHome pick
-  record-kept (place.In zero) t = refl
-  record-kept (place.In (suc i)) t =
-      ⊎-elim
-      (λ q. not-both false (rw (le-ltb i (h .sections) q) at t) refl)
-      (λ q. list-at (λ k. homeRecord f h (homeOf f h k)) 0 (h .sections) i q)
-      (le-or-lt (h .sections) i)
-  record-kept place.Undefined t = refl
-  record-kept place.Common t = refl
-  record-kept place.Absolute t = refl
-  record-kept place.Nowhere t = refl
-  record-kept place.Other t = refl
-
-  place-most : (p : Place) → ofPlace (λ i. homeRecord f h (homeOf f h i)) 0 p ≤ h .sections
+  place-most : (p : Place) → ofPlace (homeRecord f h) 0 p ≤ h .sections
   unfolding ofPlace byNumber
   place-most (place.In zero) = omega arith
-  place-most (place.In (suc i)) = record-most i (homeOf f h i) refl
+  place-most (place.In (suc i)) = record-most i
   place-most place.Undefined = omega arith
   place-most place.Common = omega arith
   place-most place.Absolute = omega arith
@@ -192,16 +177,12 @@ module _ (f : List ℕ) (bytes : IsBytes f) (c : Counts) (accepted : surveyOf f 
     pub home-is : wordOf SYMBOL-WORDS (symbolsOf f base) k SYMBOL-HOME ≡ symbolHome f j
     pub address : wordOf SYMBOL-WORDS (symbolsOf f base) k ADDRESS ≡ listedAddress f base j
 
-  has-home : (j : ℕ) → isListed f j ≡ true → isSome (placeHome (sectionHome f h) (symbolPlace f h j)) ≡ true
-  unfolding listed
-  has-home j t = and-right (primary f h j) _ t
-
   read-symbol : (j : ℕ) → j < h .symbols → isListed f j ≡ true → SymbolRead (countTo (isListed f) j) j
   read-symbol j l t =
-      let e = symbols-fill f h base (sectionHome f h) (homeRecords f h (h .sections)) in
-      let w : SymbolAt (symbolsOf f base) (countTo (isListed f) j) f h base (sectionHome f h) (homeRecords f h (h .sections)) j =
-      subst (λ (s : List ℕ). SymbolAt s (countTo (isListed f) j) f h base (sectionHome f h) (homeRecords f h (h .sections)) j) (splice-self (symbolsOf f base))
-      (symbol-read f h base (sectionHome f h) (homeRecords f h (h .sections)) (symbolsOf f base) j (omega arith) l t) in
+      let e = symbols-fill f h base (sectionHome f h) (homeRecord f h) in
+      let w : SymbolAt (symbolsOf f base) (countTo (isListed f) j) f h base (sectionHome f h) (homeRecord f h) j =
+      subst (λ (s : List ℕ). SymbolAt s (countTo (isListed f) j) f h base (sectionHome f h) (homeRecord f h) j) (splice-self (symbolsOf f base))
+      (symbol-read f h base (sectionHome f h) (homeRecord f h) (symbolsOf f base) j (omega arith) l t) in
       let few = fits .symbols in
       let some = fits .sections in
       let r = place-most f h (symbolPlace f h j) in
@@ -210,12 +191,12 @@ module _ (f : List ℕ) (bytes : IsBytes f) (c : Counts) (accepted : surveyOf f 
       let o = offset-most (placeHome (sectionHome f h) (symbolPlace f h j)) (listedValue f h j) (undefStart f h) (start-most f h (symbolPlace f h j)) in
       record {
         number = w .number ∙ omega arith;
-        home-is = w .homeRecord ∙ ap (λ (z : ℕ). z % 2 ^ 64) (record-kept f h (symbolPlace f h j) (has-home j t)) ∙ omega arith;
+        home-is = w .homeRecord ∙ omega arith;
         address = w .address ∙ omega arith;
       }
 
   symbols-count : symbolCount (symbolsOf f base) ≡ listedTotal f h (sectionHome f h)
-  symbols-count = let e = symbols-fill f h base (sectionHome f h) (homeRecords f h (h .sections)) in omega arith
+  symbols-count = let e = symbols-fill f h base (sectionHome f h) (homeRecord f h) in omega arith
 
   which-symbol : (k : ℕ) → k < symbolCount (symbolsOf f base) → Chosen (isListed f) (h .symbols) k (getD (chosen (isListed f) (h .symbols)) k 0)
   which-symbol k l = chosen-is (isListed f) (h .symbols) k 0 (rw (length-chosen (isListed f) (h .symbols)) (rw symbols-count at l))
@@ -225,7 +206,7 @@ module _ (f : List ℕ) (bytes : IsBytes f) (c : Counts) (accepted : surveyOf f 
   table = tableSections (sectionsOf f base)
 
   sections-count : length (sectionsOf f base) / SECTION-BYTES ≡ tableRecords f h
-  sections-count = let e = sections-fill f h base (startsTo f h (h .sections)) (undefStart f h) in omega arith
+  sections-count = let e = sections-fill f h base (sectionHome f h) (undefStart f h) in omega arith
 
   section-is : (r : ℕ) → r < tableRecords f h → nth table r ≡ sectionAt (sectionsOf f base) r
   section-is r l = list-at (sectionAt (sectionsOf f base)) blank (length (sectionsOf f base) / SECTION-BYTES) r (rw sections-count l)

@@ -5,7 +5,7 @@ use mathlib.Core.List.{List}
 use Prim.Native.Nat.{ℕ, _+_, _*_, _/_, _≤_}
 use native.Mathlib.Omega.{arith}
 use lib.Dec.{eqb}
-use borrow.Author.Tests.{ne-eqb, eq-eqb, le-leb}
+use borrow.Author.Tests.{ne-eqb, le-leb}
 use Rattle.util.specs.Pick.{pick}
 use Rattle.util.specs.Prefix.{allTo, sumTo, all-of}
 use Rattle.util.specs.Align.{roundUp}
@@ -18,12 +18,12 @@ use Rattle.limits.specs.Limits.{MAX-FILE, MAX-SYMBOLS, MAX-RELOCATIONS, MAX-PAG
 use Rattle.kinds.specs.Flags.{loadedBy, alignOf}
 use Rattle.object.specs.declared.Header.{Header}
 use Rattle.object.specs.Format.{HEADER-SIZE, stringLength}
-use Rattle.object.specs.Section.{loaded, fileStart, rangeLength}
+use Rattle.object.specs.Section.{loaded, rangeLength}
 use Rattle.object.specs.Symbol.{okAt}
 use Rattle.names.specs.Bytes.{run, goodSectionName}
 use Rattle.names.specs.Name.{sectionRun, checked}
 use Rattle.layout.specs.Layout.{nextStart, startAt, undefStart, mappedPages}
-use Rattle.homes.specs.Home.{firstIn, isHome, homeStart, sectionHome}
+use Rattle.homes.specs.Home.{sectionHome}
 use Rattle.bounds.specs.Bounds.{sizeOk, sectionTableOk, stringsOk, symbolTableOk, bytesOk, dataOk, relocationsOk, sectionsOk}
 use Rattle.good_names.specs.GoodNames.{nameOk, sectionNameOk, namesOk}
 use Rattle.checks.specs.Checks.{numberOk, numbersOk, pagesOk}
@@ -59,8 +59,8 @@ module _ (n m : ℕ) (names : n ≤ MAX-NAMES) (most : m ≤ MAX-RELOCATIONS) wh
 
   -- .text is its own home, at the base
   pub home-is : sectionHome f h 0 ≡ At (rva 0)
-  unfolding sectionHome homeStart firstIn isHome startAt pick
-  home-is = rw (text-loaded, eq-eqb (fileStart f h 0) (fileStart f h 0) refl)
+  unfolding sectionHome startAt pick
+  home-is = rw text-loaded
 
   -- ---- checks
   -- the file ends with the string table

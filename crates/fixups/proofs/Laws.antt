@@ -1,22 +1,16 @@
 -- The ways through the code. Assumes nothing.
-use mathlib.Core.Path.{_≡_, refl}
+use mathlib.Core.Path.{_≡_}
 use mathlib.Core.Bool.{Bool, true, false}
-use mathlib.Core.List.{List}
-use Prim.Native.Nat.{ℕ, zero, suc, _+_, _-_, _<_, _%_, _^_}
+use Prim.Native.Nat.{ℕ, _+_, _<_, _%_, _^_}
 use native.Mathlib.Omega.{arith}
+use borrow.Author.Tests.{ne-eqb}
 use Rattle.util.specs.Pick.{pick}
-use Rattle.arch.specs.declared.Arch.{Arch}
 use Rattle.arch.specs.declared.RVA.{RVA}
-use Rattle.arch.specs.declared.Offset.the-variants.{At}
 use Rattle.arch.specs.Address.{rva}
 use Rattle.kinds.specs.declared.RelocationKind.{RelocationKind}
 use Rattle.kinds.specs.declared.RelocationKind.the-variants as reloc
 use Rattle.kinds.specs.declared.RelocationType.{RelocationType}
-use Rattle.object.specs.declared.Records.{Records}
-use Rattle.object.specs.declared.Relocation.{Relocation}
-use Rattle.object.specs.Relocation.{relocationIn, recordAt}
-use Rattle.kinds.specs.Types.{typeOf}
-use Rattle.homes.specs.Home.{wordHome}
+use Rattle.homes.specs.Home.{wordStart, wordHome}
 use Rattle.fixups.specs.declared.Fix.{Fix}
 use Rattle.fixups.specs.declared.Outcome.{Outcome}
 use Rattle.fixups.specs.declared.Outcome.the-variants.{Passed, Skipped, Refused, Fixup}
@@ -79,19 +73,14 @@ module _ (g : Target) (t : RelocationType) (place : RVA) where
 
 pub ruleset resolving = (resolved-home, resolved-named, resolved-slot, resolved-missing, resolved-refused)
 
-home-word : (w : ℕ) → (w ≡ 0 → ⊥) → wordHome w ≡ At (rva (w - 1))
-unfolding wordHome
-home-word zero n = absurd (n refl)
-home-word (suc w) n = let e : suc w - 1 ≡ w = omega arith in rw e
-
 module _ (w address : ℕ) (t : RelocationType) (g : Target) where
   pub home-none : w ≡ 0 → Passed ≡ outcomeAt (wordHome w) address t g
-  unfolding outcomeAt wordHome
+  unfolding outcomeAt wordHome pick
   home-none e = rw e
 
-  pub home-some : (x : Outcome) → (w ≡ 0 → ⊥) → x ≡ resolved g t (rva (w - 1 + address)) → x ≡ outcomeAt (wordHome w) address t g
-  unfolding outcomeAt
-  home-some x n q = rw (home-word w n) q
+  pub home-some : (x : Outcome) (s : RVA) → (w ≡ 0 → ⊥) → s ≡ rva (wordStart w) → x ≡ resolved g t (rva (s .0 + address)) → x ≡ outcomeAt (wordHome w) address t g
+  unfolding outcomeAt wordHome pick
+  home-some x s n e q = rw (ne-eqb w 0 n) (rw e at q)
 
 pub ruleset outcome-ways = (home-none, home-some)
 

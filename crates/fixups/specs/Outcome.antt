@@ -4,6 +4,7 @@ use mathlib.Core.List.{List}
 use Prim.Native.Nat.{ℕ, _+_}
 use lib.ListN.{getD}
 use Rattle.refusal.specs.Refusal.{TARGET}
+use Rattle.util.specs.Pick.{pick}
 use Rattle.arch.specs.declared.Arch.{Arch}
 use Rattle.arch.specs.declared.RVA.{RVA}
 use Rattle.arch.specs.declared.Offset.{Offset}
@@ -80,7 +81,7 @@ outcome arch f h home target i k = byHome arch target (home i) (relocation f h i
 
 -- by the words that are kept of the homes: in a section without one every relocation is passed
 pub no-home : (a : Arch) (f : List ℕ) (h : Header) (homes : List ℕ) (target : ℕ → Target) (i w : ℕ) → w ≡ getD homes i 0 → w ≡ 0 → (k : ℕ) → outcome a f h (homeIn homes) target i k ≡ Passed
-unfolding outcome outcomeAt wordHome
+unfolding outcome outcomeAt wordHome pick
 no-home a f h homes target i w e z k = rw (← e, z)
 
 -- the same by what is found once for a section: where its records are, and its home (`read-outcome`)

@@ -16,7 +16,8 @@ use Rattle.object.specs.Symbol.{primary}
 use Rattle.names.specs.Bytes.{sameBytes, UNDEF}
 use Rattle.names.specs.Name.{symbolText}
 use Rattle.layout.specs.Layout.{undefStart}
-use Rattle.homes.specs.Home.{loadedNamed, namedRecord, homeStart, byNumber}
+use Rattle.ranks.specs.Named.{loadedNamed, namedRecord}
+use Rattle.homes.specs.Home.{recordStart, byNumber}
 use Rattle.homes.specs.HomeLaws.{start-most}
 use Rattle.externs.specs.declared.Found.{Found}
 use Rattle.externs.specs.declared.Found.the-variants.{Index, Nothing}
@@ -80,7 +81,7 @@ module _ (f : List ℕ) (h : Header) (home : ℕ → Offset) (slot : List ℕ �
 
   named-for : Near u (namedFor f h home u slot j)
   named-for =
-      near-named u (homeStart f h (namedRecord f h (symbolText f h j))) (slotFor f h home u slot j)
+      near-named u (recordStart f h (namedRecord f h (symbolText f h j))) (slotFor f h home u slot j)
       (start-most f h (loadedNamed f h (symbolText f h j)) (sameBytes (symbolText f h j) UNDEF)) slot-for
 
   none : Near u Refused

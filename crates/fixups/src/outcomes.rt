@@ -58,7 +58,8 @@ pub fn outcome_at(word: u32, address: u32, t: RelocationType, g: Target) -> Outc
     if word == 0 {
         Outcome::Passed
     } else {
-        resolved(g, t, RVA((word - 1) as u64 + address as u64))
+        let start = homes::word_start(word);
+        resolved(g, t, RVA(start.0 + address as u64))
     }
 }
 

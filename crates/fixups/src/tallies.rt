@@ -86,8 +86,8 @@ fn with_outcome(pages: u32, t: Tally, o: Outcome) -> Tally
     }
 }
 
-// What becomes of relocation k of a section: `records` says where its records are, `word` is what is kept of its home; `types` is the machine's table; `homes`,
-// `starts` and `codes` have what is kept of the sections and the symbols. Each of the two passes over the relocations (the other is in `lists`) has its own, to
+// What becomes of relocation k of a section: `records` says where its records are, `word` is what is kept of its home; `types` is the machine's table; `homes`
+// and `codes` have what is kept of the sections and the symbols. Each of the two passes over the relocations (the other is in `lists`) has its own, to
 // be compiled into its loop.
 fn outcome_of(
     arch: Arch,
@@ -96,16 +96,15 @@ fn outcome_of(
     records: Records,
     word: u32,
     homes: &[u32],
-    starts: &[u32],
     undef: u32,
     codes: &[u16],
     k: u32,
 ) -> Outcome
     requires { ⌜ now types ≡ rowsOf arch ⌝ }
-    ensures { λ r. ⌜ r ≡ byHome arch (targetIn (now (homes .entry)) (now (starts .entry)) undef (now (codes .entry))) (wordHome word) (relocationIn (now (f .entry)) (recordAt records k)) ⌝ }
+    ensures { λ r. ⌜ r ≡ byHome arch (targetIn (now (homes .entry)) undef (now (codes .entry))) (wordHome word) (relocationIn (now (f .entry)) (recordAt records k)) ⌝ }
 {
     let r = object::read_relocation(f, records, k);
-    let target = targets::target_in(homes, starts, undef, codes, r.symbol);
+    let target = targets::target_in(homes, undef, codes, r.symbol);
     outcomes::outcome_at(word, r.address, kinds::type_in(types, r.typ), target)
 }
 
@@ -116,7 +115,6 @@ fn with_section(
     f: &[u8],
     h: Header,
     homes: &[u32],
-    starts: &[u32],
     undef: u32,
     codes: &[u16],
     pages: u32,
@@ -124,7 +122,7 @@ fn with_section(
     i: u32,
 ) -> Tally
     requires { ⌜ (now types ≡ rowsOf arch) × (i < 2 ^ 16) × AtMost t (2 ^ 32 * i) ⌝ }
-    ensures { λ r. ⌜ Counted (rowTo pages (outcome arch (now (f .entry)) h (homeIn (now (homes .entry))) (targetIn (now (homes .entry)) (now (starts .entry)) undef (now (codes .entry)))) i t (relocationCount (now (f .entry)) h i)) i r ⌝ }
+    ensures { λ r. ⌜ Counted (rowTo pages (outcome arch (now (f .entry)) h (homeIn (now (homes .entry))) (targetIn (now (homes .entry)) undef (now (codes .entry)))) i t (relocationCount (now (f .entry)) h i)) i r ⌝ }
 {
     let records = object::records_of(f, h, i);
     let word = le::word_at(homes, i as usize);
@@ -132,18 +130,7 @@ fn with_section(
     let mut sum = t;
     let mut k: u32 = 0;
     while k < m {
-        let o = outcome_of(
-            arch,
-            types,
-            f,
-            records,
-            word,
-            homes,
-            starts,
-            undef,
-            codes,
-            k,
-        );
+        let o = outcome_of(arch, types, f, records, word, homes, undef, codes, k);
         sum = with_outcome(pages, sum, o);
         k += 1;
     }
@@ -171,13 +158,12 @@ fn tally_with(
     f: &[u8],
     h: Header,
     homes: &[u32],
-    starts: &[u32],
     undef: u32,
     codes: &[u16],
     pages: u32,
 ) -> Tally
     requires { ⌜ now types ≡ rowsOf arch ⌝ }
-    ensures { λ r. ⌜ r ≡ tallyOf pages (outcome arch (now (f .entry)) h (homeIn (now (homes .entry))) (targetIn (now (homes .entry)) (now (starts .entry)) undef (now (codes .entry)))) (relocationCount (now (f .entry)) h) (h .sections) ⌝ }
+    ensures { λ r. ⌜ r ≡ tallyOf pages (outcome arch (now (f .entry)) h (homeIn (now (homes .entry))) (targetIn (now (homes .entry)) undef (now (codes .entry)))) (relocationCount (now (f .entry)) h) (h .sections) ⌝ }
     ensures { λ r. ⌜ AtMost r (2 ^ 48) ⌝ }
 {
     let n = h.sections as u32;
@@ -194,19 +180,7 @@ fn tally_with(
             sum = with_passed(sum, object::relocation_count(f, h, i));
             i += 1;
         } else {
-            sum = with_section(
-                arch,
-                types,
-                f,
-                h,
-                homes,
-                starts,
-                undef,
-                codes,
-                pages,
-                sum,
-                i,
-            );
+            sum = with_section(arch, types, f, h, homes, undef, codes, pages, sum, i);
             i += 1;
         }
     }
@@ -219,22 +193,21 @@ pub fn tally_of(
     f: &[u8],
     h: Header,
     homes: &[u32],
-    starts: &[u32],
     undef: u32,
     codes: &[u16],
     pages: u32,
 ) -> Tally
-    ensures { λ r. ⌜ r ≡ tallyOf pages (outcome arch (now (f .entry)) h (homeIn (now (homes .entry))) (targetIn (now (homes .entry)) (now (starts .entry)) undef (now (codes .entry)))) (relocationCount (now (f .entry)) h) (h .sections) ⌝ }
+    ensures { λ r. ⌜ r ≡ tallyOf pages (outcome arch (now (f .entry)) h (homeIn (now (homes .entry))) (targetIn (now (homes .entry)) undef (now (codes .entry)))) (relocationCount (now (f .entry)) h) (h .sections) ⌝ }
     ensures { λ r. ⌜ AtMost r (2 ^ 48) ⌝ }
 {
     match arch {
         Arch::X32 => {
             let types = kinds::X32_TYPES;
-            tally_with(arch, &types, f, h, homes, starts, undef, codes, pages)
+            tally_with(arch, &types, f, h, homes, undef, codes, pages)
         }
         Arch::X64 => {
             let types = kinds::X64_TYPES;
-            tally_with(arch, &types, f, h, homes, starts, undef, codes, pages)
+            tally_with(arch, &types, f, h, homes, undef, codes, pages)
         }
     }
 }

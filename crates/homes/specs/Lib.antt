@@ -1,5 +1,3 @@
 pub mod Home
-pub mod FirstLaws
-pub mod Ranked
 pub mod HomeLaws
 pub mod Listed

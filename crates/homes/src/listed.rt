@@ -1,4 +1,5 @@
 // Which symbols are listed, and where.
+use crate::kept::HALF;
 use crate::kept::home_of_number;
 use arch::Offset;
 use arch::RVA;
@@ -9,12 +10,11 @@ ghost use mathlib.Core.Path.{_≡_};
 ghost use mathlib.Core.Bool.{_&&_};
 ghost use Prim.Native.Nat.{_<_, _^_};
 ghost use lib.Dec.{eqb, ltb};
-ghost use lib.ListN.{getD};
 ghost use Rattle.util.specs.Pick.{pick};
 ghost use Rattle.arch.specs.Address.{rva};
 ghost use Rattle.arch.specs.declared.Offset.the-variants.{None};
 ghost use Rattle.object.specs.Symbol.{placeOf};
-ghost use Rattle.homes.specs.Home.{byNumber, homeIn, Low};
+ghost use Rattle.homes.specs.Home.{byNumber, wordRecord, homeIn, recordIn, Low};
 ghost use Rattle.homes.specs.Listed.{ofPlace, placeHome, isSome, offsetFrom, listedTotal};
 
 // Where the home of a place starts.
@@ -32,22 +32,30 @@ fn place_home(homes: &[u32], p: Place) -> Offset
     }
 }
 
-fn record_of_number(records: &[u32], n: u32) -> u32
-    ensures { λ r. ⌜ r ≡ byNumber (λ i. getD (now (records .entry)) i 0) 0 n ⌝ }
+// The record that a word keeps.
+fn word_record(word: u32) -> u32
+    ensures { λ r. ⌜ r ≡ wordRecord word ⌝ }
+{
+    let high = word / HALF;
+    if high == 0 { 0 } else { high - 1 }
+}
+
+fn record_of_number(homes: &[u32], n: u32) -> u32
+    ensures { λ r. ⌜ r ≡ byNumber (recordIn (now (homes .entry))) 0 n ⌝ }
 {
     if n == 0 {
         0
     } else {
-        le::word_at(records, (n - 1) as usize)
+        word_record(le::word_at(homes, (n - 1) as usize))
     }
 }
 
-// The table record of a place's home, by the words of `records`; 0 outside the sections.
-pub fn record_of_place(records: &[u32], p: Place) -> u32
-    ensures { λ r. ⌜ r ≡ ofPlace (λ i. getD (now (records .entry)) i 0) 0 p ⌝ }
+// The table record of a place's home; 0 outside the sections.
+pub fn record_of_place(homes: &[u32], p: Place) -> u32
+    ensures { λ r. ⌜ r ≡ ofPlace (recordIn (now (homes .entry))) 0 p ⌝ }
 {
     match p {
-        Place::In(n) => record_of_number(records, n),
+        Place::In(n) => record_of_number(homes, n),
         Place::Undefined => 0,
         Place::Common => 0,
         Place::Absolute => 0,

@@ -5,45 +5,46 @@ use mathlib.Core.List.{List}
 use Prim.Native.Nat.{ℕ, _+_, _-_, _*_, _%_, _^_, _≤_, _<_}
 use native.Mathlib.Omega.{arith}
 use native.Mathlib.Numerals.{add-one}
-use lib.ListN.{getD, length}
+use lib.ListN.{length}
 use mathlib.Core.Logic.{⊎-elim}
 use Rattle.util.specs.Pick.{pick, yes-no}
 use Rattle.limits.specs.Limits.{SLOT-SIZE}
 use Rattle.arch.specs.declared.RVA.{RVA}
 use Rattle.arch.specs.declared.Offset.{Offset}
 use Rattle.arch.specs.declared.Offset.the-variants.{At, None}
-use Rattle.arch.specs.Address.{offsetPlus, plus-tells, plus-past}
+use Rattle.arch.specs.Address.{rva, offsetPlus, plus-tells, plus-past}
 use Rattle.le.specs.Le.{le, part, splice, le-low, splice-past}
 use Rattle.object.specs.declared.Header.{Header}
 use Rattle.object.specs.Format.{rawPointer, rawSize}
 use Rattle.object.specs.Section.{loaded, uninitialized, fileStart, fileEnd}
+use Rattle.homes.specs.Home.{startOf}
 use Rattle.image.specs.Laid.{zeroed, sectionBytes, sectionStep, sectionsLaid, slotStep, slotsLaid, laid}
 use Rattle.image.specs.LaidLaws.{length-sections, length-slots}
 
 -- ---- sections
-module _ (f : List ℕ) (h : Header) (starts image : List ℕ) where
-  pub section-laid : (i at : ℕ) (l : Bool) (s b : List ℕ) → l ≡ loaded f h i → l ≡ true → at ≡ getD starts i 0 → s ≡ sectionBytes f h i → b ≡ splice image at s → b ≡ sectionStep f h starts image i
+module _ (f : List ℕ) (h : Header) (home : ℕ → Offset) (image : List ℕ) where
+  pub section-laid : (i : ℕ) (at : RVA) (l : Bool) (s b : List ℕ) → l ≡ loaded f h i → l ≡ true → at ≡ rva (startOf (home i)) → s ≡ sectionBytes f h i → b ≡ splice image (at .0) s → b ≡ sectionStep f h home image i
   unfolding sectionStep pick
-  section-laid i at l s b q t e d w = rw (← q, t, ← e, ← d) w
+  section-laid i at l s b q t e d w = rw (← q, t, ← d) (rw e at w)
 
-  pub section-not : (i : ℕ) (l : Bool) → l ≡ loaded f h i → l ≡ false → image ≡ sectionStep f h starts image i
+  pub section-not : (i : ℕ) (l : Bool) → l ≡ loaded f h i → l ≡ false → image ≡ sectionStep f h home image i
   unfolding sectionStep pick
   section-not i l q t = rw (← q, t)
 
-  pub sections-none : image ≡ sectionsLaid f h starts image 0
+  pub sections-none : image ≡ sectionsLaid f h home image 0
   unfolding sectionsLaid
   sections-none = refl
 
-  pub sections-again : (i : ℕ) (b c : List ℕ) → b ≡ sectionsLaid f h starts image i → c ≡ sectionStep f h starts b i → c ≡ sectionsLaid f h starts image (i + 1)
+  pub sections-again : (i : ℕ) (b c : List ℕ) → b ≡ sectionsLaid f h home image i → c ≡ sectionStep f h home b i → c ≡ sectionsLaid f h home image (i + 1)
   unfolding sectionsLaid
   sections-again i b c e q = rw (add-one i, ← e) q
 
-  pub sections-end : (i n m : ℕ) (b : List ℕ) → b ≡ sectionsLaid f h starts image i → i ≤ n → n ≤ i → n ≡ m → b ≡ sectionsLaid f h starts image m
+  pub sections-end : (i n m : ℕ) (b : List ℕ) → b ≡ sectionsLaid f h home image i → i ≤ n → n ≤ i → n ≡ m → b ≡ sectionsLaid f h home image m
   sections-end i n m b e a c q = let z : i ≡ m = omega arith in cc
 
   -- no byte more or less
-  pub sections-same : (n : ℕ) (b : List ℕ) → b ≡ sectionsLaid f h starts image n → length b ≡ length image
-  sections-same n b e = rw e (length-sections f h starts image n)
+  pub sections-same : (n : ℕ) (b : List ℕ) → b ≡ sectionsLaid f h home image n → length b ≡ length image
+  sections-same n b e = rw e (length-sections f h home image n)
 
 pub range-up : (f : List ℕ) (h : Header) (i a b : ℕ) → a ≡ fileStart f h i → b ≡ fileEnd f h i → a ≤ b
 unfolding fileStart fileEnd pick
@@ -90,8 +91,8 @@ module _ (base undef : ℕ) (image : List ℕ) where
 pub ruleset slots-loop = (slots-none, slots-again, slots-end, slots-same)
 
 -- ---- the three writes, one behind another
-pub laid-is : (f : List ℕ) (h : Header) (starts image a b c : List ℕ) (pages base undef n : ℕ) → a ≡ zeroed pages image → b ≡ sectionsLaid f h starts a (h .sections) → c ≡ slotsLaid base undef b n → c ≡ laid f h starts pages base undef n image
-laid-is f h starts image a b c pages base undef n p q r = rw (← p, ← q) r
+pub laid-is : (f : List ℕ) (h : Header) (home : ℕ → Offset) (image a b c : List ℕ) (pages base undef n : ℕ) → a ≡ zeroed pages image → b ≡ sectionsLaid f h home a (h .sections) → c ≡ slotsLaid base undef b n → c ≡ laid f h home pages base undef n image
+laid-is f h home image a b c pages base undef n p q r = rw (← p, ← q) r
 
 -- ---- bytes that are known by equations
 pub bytes-by : (f : List ℕ) (h : Header) (i a b : ℕ) {r : List ℕ} → r ≡ part f a (b - a) → a ≡ fileStart f h i → b ≡ fileEnd f h i → r ≡ sectionBytes f h i

@@ -4,20 +4,22 @@ use mathlib.Core.Path.{_≡_, refl, sym, ap, _∙_}
 use mathlib.Core.Bool.{true}
 use mathlib.Core.List.{List}
 use mathlib.Core.Logic.{⊎-elim}
-use Prim.Native.Nat.{ℕ, zero, suc, _+_, _-_, _*_, _%_, _^_, _≤_, _<_}
-use native.Mathlib.Nat.{le-trans, le-of-suc-le-suc, eq-or-lt-of-le, mod-eq-of-lt}
+use Prim.Native.Nat.{ℕ, zero, suc, _+_, _-_, _*_, _≤_, _<_}
+use native.Mathlib.Nat.{le-trans, le-of-suc-le-suc, eq-or-lt-of-le}
 use native.Mathlib.Omega.{arith}
 use lib.ListN.{length, replicate, getD, length-replicate, getD-replicate, List·getD-eq-default}
 use Rattle.limits.specs.Limits.{MAX-PAGES, MAX-EXTERNS}
 use Rattle.util.specs.Pick.{pick, yes-no, le-or-lt}
-use Rattle.util.specs.Prefix.{list-at}
 use Rattle.arch.specs.Page.{PAGE-SIZE}
 use Rattle.le.specs.Le.{le, length-splice, length-le, splice-below, splice-above, splice-out, splice-in, part-most, part-at}
 use Rattle.object.specs.declared.Header.{Header}
 use Rattle.object.specs.Section.{loaded, fileStart, fileEnd, rangeLength}
 use Rattle.object.specs.SectionLaws.{file-range}
-use Rattle.layout.specs.Layout.{startAt, undefStart, mappedPages, startsTo}
-use Rattle.layout.specs.LayoutLaws.{starts-fit, ranges-apart, ranges-share-none, undef-behind, pages-mapped}
+use Rattle.layout.specs.Layout.{startAt, undefStart, mappedPages}
+use Rattle.layout.specs.LayoutLaws.{ranges-apart, ranges-share-none, undef-behind, pages-mapped}
+use Rattle.arch.specs.declared.Offset.{Offset}
+use Rattle.homes.specs.Home.{sectionHome, startOf}
+use Rattle.homes.specs.HomeLaws.{loaded-start}
 use Rattle.image.specs.Laid.{zeroed, sectionBytes, sectionStep, sectionsLaid, slotStep, slotsLaid, laid, laidImage}
 
 -- ---- slots
@@ -49,71 +51,65 @@ module _ (base undef : ℕ) (image : List ℕ) where
       (eq-or-lt-of-le (le-of-suc-le-suc h))
 
 -- ---- sections, wherever they start
-pub length-step : (f : List ℕ) (h : Header) (starts image : List ℕ) (i : ℕ) → length (sectionStep f h starts image i) ≡ length image
+pub length-step : (f : List ℕ) (h : Header) (home : ℕ → Offset) (image : List ℕ) (i : ℕ) → length (sectionStep f h home image i) ≡ length image
 unfolding sectionStep pick
-length-step f h starts image i =
-    ⊎-elim (λ t. rw t (length-splice image (getD starts i 0) (sectionBytes f h i))) (λ t. rw t) (yes-no (loaded f h i))
+length-step f h home image i =
+    ⊎-elim (λ t. rw t (length-splice image (startOf (home i)) (sectionBytes f h i))) (λ t. rw t) (yes-no (loaded f h i))
 
-module _ (f : List ℕ) (h : Header) (starts image : List ℕ) where
-  pub length-sections : (n : ℕ) → length (sectionsLaid f h starts image n) ≡ length image
+module _ (f : List ℕ) (h : Header) (home : ℕ → Offset) (image : List ℕ) where
+  pub length-sections : (n : ℕ) → length (sectionsLaid f h home image n) ≡ length image
   unfolding sectionsLaid
   length-sections zero = refl
-  length-sections (suc n) = length-step f h starts (sectionsLaid f h starts image n) n ∙ length-sections n
+  length-sections (suc n) = length-step f h home (sectionsLaid f h home image n) n ∙ length-sections n
 
   sections-out : (n a : ℕ)
-      → ((i : ℕ) → i < n → loaded f h i ≡ true → getD starts i 0 ≤ a → a < getD starts i 0 + length (sectionBytes f h i) → ⊥)
-      → getD (sectionsLaid f h starts image n) a 0 ≡ getD image a 0
+      → ((i : ℕ) → i < n → loaded f h i ≡ true → startOf (home i) ≤ a → a < startOf (home i) + length (sectionBytes f h i) → ⊥)
+      → getD (sectionsLaid f h home image n) a 0 ≡ getD image a 0
   unfolding sectionsLaid sectionStep pick
   sections-out zero a o = refl
   sections-out (suc n) a o =
       let r = sections-out n a (λ i k. o i (omega arith)) in
       ⊎-elim
       (λ t.
-      rw t (splice-out (sectionsLaid f h starts image n) (getD starts n 0) (sectionBytes f h n) a (λ x y. o n (omega arith) t x y) ∙ r))
+      rw t (splice-out (sectionsLaid f h home image n) (startOf (home n)) (sectionBytes f h n) a (λ x y. o n (omega arith) t x y) ∙ r))
       (λ t. rw t r)
       (yes-no (loaded f h n))
 
   -- a section's bytes are there, if no later section's are put over them
-  sections-in : (n i j : ℕ) → i < n → loaded f h i ≡ true → j < length (sectionBytes f h i) → getD starts i 0 + j < length image
-      → ((k : ℕ) → i < k → k < n → loaded f h k ≡ true → getD starts i 0 + j < getD starts k 0)
-      → getD (sectionsLaid f h starts image n) (getD starts i 0 + j) 0 ≡ getD (sectionBytes f h i) j 0
+  sections-in : (n i j : ℕ) → i < n → loaded f h i ≡ true → j < length (sectionBytes f h i) → startOf (home i) + j < length image
+      → ((k : ℕ) → i < k → k < n → loaded f h k ≡ true → startOf (home i) + j < startOf (home k))
+      → getD (sectionsLaid f h home image n) (startOf (home i) + j) 0 ≡ getD (sectionBytes f h i) j 0
   unfolding sectionsLaid sectionStep pick
   sections-in zero i j q t l m o = absurd (omega arith)
   sections-in (suc n) i j q t l m o =
       ⊎-elim
       (λ (z : i ≡ n).
       let u : loaded f h n ≡ true = ap (loaded f h) (sym z) ∙ t in
-      let e : length (sectionsLaid f h starts image n) ≡ length image = length-sections n in
+      let e : length (sectionsLaid f h home image n) ≡ length image = length-sections n in
       let x : j < length (sectionBytes f h n) = rw z at l in
-      let y : getD starts n 0 + j < length image = rw z at m in
-      rw (z, u) (splice-in (sectionsLaid f h starts image n) (getD starts n 0) (sectionBytes f h n) j x (omega arith)))
+      let y : startOf (home n) + j < length image = rw z at m in
+      rw (z, u) (splice-in (sectionsLaid f h home image n) (startOf (home n)) (sectionBytes f h n) j x (omega arith)))
       (λ (z : i < n).
       let r = sections-in n i j z t l m (λ k a b. o k a (omega arith)) in
       ⊎-elim
       (λ u.
-      rw u (splice-below (sectionsLaid f h starts image n) (getD starts n 0) (sectionBytes f h n) (getD starts i 0 + j) (o n z (omega arith) u) ∙ r))
+      rw u (splice-below (sectionsLaid f h home image n) (startOf (home n)) (sectionBytes f h n) (startOf (home i) + j) (o n z (omega arith) u) ∙ r))
       (λ u. rw u r)
       (yes-no (loaded f h n)))
       (eq-or-lt-of-le (le-of-suc-le-suc q))
 
 -- ---- no byte more or less
-pub length-laid : (f : List ℕ) (h : Header) (starts : List ℕ) (pages base undef n : ℕ) (image : List ℕ)
-    → length (laid f h starts pages base undef n image) ≡ length image
-length-laid f h starts pages base undef n image =
-    length-slots base undef (sectionsLaid f h starts (zeroed pages image) (h .sections)) n
-    ∙ length-sections f h starts (zeroed pages image) (h .sections)
+pub length-laid : (f : List ℕ) (h : Header) (home : ℕ → Offset) (pages base undef n : ℕ) (image : List ℕ)
+    → length (laid f h home pages base undef n image) ≡ length image
+length-laid f h home pages base undef n image =
+    length-slots base undef (sectionsLaid f h home (zeroed pages image) (h .sections)) n
+    ∙ length-sections f h home (zeroed pages image) (h .sections)
     ∙ length-splice image 0 (replicate (PAGE-SIZE * pages) 0)
 
 -- ---- a loaded section's bytes fit its range
 module _ (f : List ℕ) (h : Header) where
   length-bytes : (i : ℕ) → length (sectionBytes f h i) ≤ fileEnd f h i - fileStart f h i
   length-bytes i = part-most f (fileStart f h i) (fileEnd f h i - fileStart f h i)
-
-  -- where refusal 8 does not apply, the 32 bits keep all of each
-  pub starts-exact : mappedPages f h ≤ MAX-PAGES → (i : ℕ) → i < h .sections → getD (startsTo f h (h .sections)) i 0 ≡ startAt f h i
-  starts-exact room i q =
-      let s = starts-fit f h room i (omega arith) in
-      list-at (λ k. startAt f h k % 2 ^ 32) 0 (h .sections) i q ∙ mod-eq-of-lt (omega arith)
 
 -- ---- the laid image of a file that is accepted
 -- refusals 8 and 9 do not apply, and the image has room for the mapped pages
@@ -124,7 +120,7 @@ module _ (f : List ℕ) (h : Header) (base n : ℕ) (image : List ℕ)
   clean = zeroed (mappedPages f h) image
 
   abbrev held : List ℕ
-  held = sectionsLaid f h (startsTo f h (h .sections)) clean (h .sections)
+  held = sectionsLaid f h (sectionHome f h) clean (h .sections)
 
   length-clean : length clean ≡ length image
   length-clean = length-splice image 0 (replicate (PAGE-SIZE * mappedPages f h) 0)
@@ -140,8 +136,8 @@ module _ (f : List ℕ) (h : Header) (base n : ℕ) (image : List ℕ)
       → ((i : ℕ) → i < h .sections → loaded f h i ≡ true → startAt f h i ≤ a → a < startAt f h i + length (sectionBytes f h i) → ⊥)
       → getD held a 0 ≡ getD clean a 0
   held-out a o =
-      sections-out f h (startsTo f h (h .sections)) clean (h .sections) a
-      (λ i q t x y. let e = starts-exact f h room i q in o i q t (omega arith) (omega arith))
+      sections-out f h (sectionHome f h) clean (h .sections) a
+      (λ i q t x y. let e = loaded-start f h i q t in o i q t (omega arith) (omega arith))
 
   -- slots stand behind every section, and on the mapped pages
   slots-above : (a : ℕ) → a < undefStart f h → getD (laidImage f h base n image) a 0 ≡ getD held a 0
@@ -152,7 +148,7 @@ module _ (f : List ℕ) (h : Header) (base n : ℕ) (image : List ℕ)
       → getD (laidImage f h base n image) (undefStart f h + 4 * e + j) 0 ≡ getD (le 4 (base + undefStart f h + 4 * e)) j 0
   laid-slot e j p q =
       let m = pages-mapped f h in
-      let l : length held ≡ length image = length-sections f h (startsTo f h (h .sections)) clean (h .sections) ∙ length-clean in
+      let l : length held ≡ length image = length-sections f h (sectionHome f h) clean (h .sections) ∙ length-clean in
       slots-in base (undefStart f h) held n e j p q (omega arith)
 
   -- section i's bytes of the file; past the end of the file they are zero, as the file reads there
@@ -162,7 +158,7 @@ module _ (f : List ℕ) (h : Header) (base n : ℕ) (image : List ℕ)
       let r = file-range f h i in
       let u = undef-behind f h i t q in
       let m = pages-mapped f h in
-      let e = starts-exact f h room i q in
+      let e = loaded-start f h i q t in
       let b : getD (sectionBytes f h i) j 0 ≡ getD f (fileStart f h i + j) 0 =
       part-at f (fileStart f h i) (fileEnd f h i - fileStart f h i) j l in
       let c = length-clean in
@@ -179,8 +175,8 @@ module _ (f : List ℕ) (h : Header) (base n : ℕ) (image : List ℕ)
       ∙ sym (List·getD-eq-default (sectionBytes f h i) 0 {n = j} z))
       (λ (z : j < length (sectionBytes f h i)).
       rw e at
-      (sections-in f h (startsTo f h (h .sections)) clean (h .sections) i j q t z (omega arith)
-      (λ k x y s. let d = starts-exact f h room k y in let a = ranges-apart f h i k t x in omega arith)))
+      (sections-in f h (sectionHome f h) clean (h .sections) i j q t z (omega arith)
+      (λ k x y s. let d = loaded-start f h k y s in let a = ranges-apart f h i k t x in omega arith)))
       (le-or-lt (length (sectionBytes f h i)) j) in
       slots-above (startAt f h i + j) (omega arith) ∙ v ∙ b
 

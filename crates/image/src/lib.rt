@@ -6,6 +6,7 @@ use arch::VA;
 use object::Header;
 ghost use mathlib.Core.Path.{_≡_};
 ghost use Rattle.marks.specs.Marks.{marksPut};
+ghost use Rattle.homes.specs.Home.{homeIn};
 ghost use Rattle.image.specs.Laid.{sectionBytes, sectionStep, sectionsLaid, slotStep, slotsLaid, laid};
 
 // The bytes of section i's file range.
@@ -17,23 +18,23 @@ fn section_bytes(f: &[u8], h: Header, i: u32) -> &[u8]
     le::part(f, from as usize, (to - from as u64) as usize)
 }
 
-// Section i's bytes, if it is loaded, at its start.
-fn lay_section(f: &[u8], h: Header, starts: &[u32], image: &mut [u8], i: u32)
-    ensures { λ _. ⌜ now (image .exit) ≡ sectionStep (now (f .entry)) h (now (starts .entry)) (now (image .entry)) i ⌝ }
+// Section i's bytes, if it is loaded, at its home's start.
+fn lay_section(f: &[u8], h: Header, homes: &[u32], image: &mut [u8], i: u32)
+    ensures { λ _. ⌜ now (image .exit) ≡ sectionStep (now (f .entry)) h (homeIn (now (homes .entry))) (now (image .entry)) i ⌝ }
 {
     if object::is_loaded(f, h, i) {
-        let at = le::word_at(starts, i as usize);
-        le::copy(image, at as usize, section_bytes(f, h, i));
+        let at = homes::start_in(homes, i);
+        le::copy(image, at.0 as usize, section_bytes(f, h, i));
     }
 }
 
-fn lay_sections(f: &[u8], h: Header, starts: &[u32], image: &mut [u8])
-    ensures { λ _. ⌜ now (image .exit) ≡ sectionsLaid (now (f .entry)) h (now (starts .entry)) (now (image .entry)) (h .sections) ⌝ }
+fn lay_sections(f: &[u8], h: Header, homes: &[u32], image: &mut [u8])
+    ensures { λ _. ⌜ now (image .exit) ≡ sectionsLaid (now (f .entry)) h (homeIn (now (homes .entry))) (now (image .entry)) (h .sections) ⌝ }
 {
     let n = h.sections as u32;
     let mut i: u32 = 0;
     while i < n {
-        lay_section(f, h, starts, image, i);
+        lay_section(f, h, homes, image, i);
         i += 1;
     }
 }
@@ -65,17 +66,17 @@ fn lay_slots(base: VA, undef: RVA, n: u32, image: &mut [u8])
 fn lay(
     f: &[u8],
     h: Header,
-    starts: &[u32],
+    homes: &[u32],
     pages: u32,
     base: VA,
     undef: RVA,
     n: u32,
     image: &mut [u8],
 )
-    ensures { λ _. ⌜ now (image .exit) ≡ laid (now (f .entry)) h (now (starts .entry)) pages (base .0) (undef .0) n (now (image .entry)) ⌝ }
+    ensures { λ _. ⌜ now (image .exit) ≡ laid (now (f .entry)) h (homeIn (now (homes .entry))) pages (base .0) (undef .0) n (now (image .entry)) ⌝ }
 {
     le::zero(image, 0, (PAGE_SIZE * (pages as u64)) as usize);
-    lay_sections(f, h, starts, image);
+    lay_sections(f, h, homes, image);
     lay_slots(base, undef, n, image);
 }
 
@@ -83,7 +84,7 @@ fn lay(
 pub fn lay_marked(
     f: &[u8],
     h: Header,
-    starts: &[u32],
+    homes: &[u32],
     pages: u32,
     base: VA,
     undef: RVA,
@@ -91,9 +92,9 @@ pub fn lay_marked(
     image: &mut [u8],
     marks: &mut [u8],
 )
-    ensures { λ _. ⌜ now (image .exit) ≡ laid (now (f .entry)) h (now (starts .entry)) pages (base .0) (undef .0) n (now (image .entry)) ⌝ }
+    ensures { λ _. ⌜ now (image .exit) ≡ laid (now (f .entry)) h (homeIn (now (homes .entry))) pages (base .0) (undef .0) n (now (image .entry)) ⌝ }
     ensures { λ _. ⌜ now (marks .exit) ≡ marksPut pages (now (marks .entry)) ⌝ }
 {
-    lay(f, h, starts, pages, base, undef, n, image);
+    lay(f, h, homes, pages, base, undef, n, image);
     marks::put_marks(pages, marks);
 }

@@ -1,18 +1,17 @@
 -- The loops of the layout. Assumes nothing.
 use mathlib.Core.Path.{_≡_}
 use mathlib.Core.Bool.{Bool, true, false}
-use mathlib.Core.List.{List, [], _∷_}
+use mathlib.Core.List.{List}
 use Prim.Native.Nat.{ℕ, _+_, _≤_, _<_, _%_, _^_}
 use native.Mathlib.Omega.{arith}
 use Rattle.util.specs.Pick.{pick}
 use Rattle.util.specs.Align.{roundUp, up-is, up-near}
 use Rattle.util.specs.Prefix.{count-none, count-yes, count-no, count-end}
-use Rattle.le.specs.Le.{splice, fill-none, fill-again, fill-end}
 use Rattle.arch.specs.Page.{PAGE-SIZE}
 use Rattle.arch.specs.Address.{rva}
 use Rattle.object.specs.declared.Header.{Header}
 use Rattle.object.specs.Section.{loaded, rangeLength}
-use Rattle.layout.specs.Layout.{nextStart, startAt, startsTo}
+use Rattle.layout.specs.Layout.{nextStart, startAt}
 use Rattle.layout.specs.LayoutLaws.{start-none, start-again}
 
 -- ---- one section further: past 64 bits it wraps
@@ -45,12 +44,7 @@ module _ (f : List ℕ) (h : Header) where
   pub start-end : (i at n : ℕ) → at ≡ startAt f h i → i ≤ n → n ≤ i → rva at ≡ rva (startAt f h n)
   start-end i at n e a b = let z : i ≡ n = omega arith in rw (e, z)
 
-  pub starts-again : (l b b′ : List ℕ) (i x w : ℕ) → b ≡ splice l 0 (startsTo f h i) → x ≡ startAt f h i → w ≡ x % 2 ^ 32 → b′ ≡ splice b i (w ∷ []) → b′ ≡ splice l 0 (startsTo f h (i + 1))
-  starts-again l b b′ i x w e q p d = fill-again (λ k. startAt f h k % 2 ^ 32) l b b′ i w e (rw (← q) p) d
-
 pub ruleset start-loop = (start-none, start-again, start-end)
-
-pub ruleset starts-loop = (fill-none, starts-again, fill-end)
 
 -- ---- table records
 pub ruleset record-loop = (count-none, count-yes, count-no, count-end)

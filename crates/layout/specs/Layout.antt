@@ -1,9 +1,9 @@
 -- Where sections lie in the image, in offsets from the base (01, "Layout, slots and fixups").
 use mathlib.Core.List.{List}
-use Prim.Native.Nat.{ℕ, zero, suc, _+_, _%_, _^_}
+use Prim.Native.Nat.{ℕ, zero, suc, _+_}
 use Rattle.util.specs.Pick.{pick}
 use Rattle.util.specs.Align.{roundUp}
-use Rattle.util.specs.Prefix.{countTo, listTo}
+use Rattle.util.specs.Prefix.{countTo}
 use Rattle.arch.specs.Page.{PAGE-SIZE, pageOf}
 use Rattle.object.specs.declared.Header.{Header}
 use Rattle.object.specs.Section.{loaded, rangeLength}
@@ -38,7 +38,3 @@ module _ (f : List ℕ) (h : Header) where
   -- how many records the table has
   abbrev pub tableRecords : ℕ
   tableRecords = recordOf (h .sections) + 1
-
-  -- the starts of the sections below i, in words of 32 bits: where refusal 8 does not apply, every start fits (`starts-fit`)
-  abbrev pub startsTo : ℕ → List ℕ
-  startsTo n = listTo (λ i. startAt i % 2 ^ 32) n

@@ -4,9 +4,8 @@ use arch::RVA;
 use object::Header;
 ghost use mathlib.Core.Path.{_≡_};
 ghost use Prim.Native.Nat.{_+_, _≤_, _%_, _^_, _<_};
-ghost use Rattle.le.specs.Le.{splice};
 ghost use Rattle.arch.specs.Address.{rva};
-ghost use Rattle.layout.specs.Layout.{pagesTo, nextStart, startAt, undefStart, recordOf, tableRecords, startsTo};
+ghost use Rattle.layout.specs.Layout.{pagesTo, nextStart, startAt, undefStart, recordOf, tableRecords};
 
 // The page boundary behind section i, if it is loaded and starts at `at`. Past 64 bits the answer wraps; no start comes near that.
 pub fn next_start(f: &[u8], h: Header, i: u32, at: RVA) -> RVA
@@ -89,20 +88,4 @@ pub fn table_records(f: &[u8], h: Header) -> u32
     ensures { λ r. ⌜ r ≡ tableRecords (now (f .entry)) h ⌝ }
 {
     record_of(f, h, h.sections) + 1
-}
-
-// The starts of all sections, a word each; the answer is UNDEF's, which lies behind them.
-pub fn fill_starts(f: &[u8], h: Header, starts: &mut [u32]) -> RVA
-    ensures { λ _. ⌜ now (starts .exit) ≡ splice (now (starts .entry)) 0 (startsTo (now (f .entry)) h (h .sections)) ⌝ }
-    ensures { λ r. ⌜ r ≡ rva (undefStart (now (f .entry)) h) ⌝ }
-{
-    let n = h.sections as u32;
-    let mut at: u64 = 0;
-    let mut i: u32 = 0;
-    while i < n {
-        le::put_word(starts, i as usize, offset_word(RVA(at)));
-        at = next_start(f, h, i, RVA(at)).0;
-        i += 1;
-    }
-    RVA(at)
 }

@@ -9,7 +9,7 @@ pub const MAX_SECTIONS: usize = 1024;
 // Symbol records, auxiliary ones too (refusal 4).
 pub const MAX_SYMBOLS: usize = 16384;
 
-// Up to so many sections and symbols small arrays keep what they come to, and few sections are not put in order: either would be most of the work on a small file.
+// Up to so many sections and symbols small arrays keep what they come to: to clear the large ones would be most of the work on a small file.
 pub const FEW_SECTIONS: usize = 64;
 
 pub const FEW_SYMBOLS: usize = 512;

@@ -101,8 +101,8 @@ fn put_outcome(
     }
 }
 
-// What becomes of relocation k of a section: `records` says where its records are, `word` is what is kept of its home; `types` is the machine's table; `homes`,
-// `starts` and `codes` have what is kept of the sections and the symbols. Each of the two passes over the relocations (the other is in `fixups`) has its own,
+// What becomes of relocation k of a section: `records` says where its records are, `word` is what is kept of its home; `types` is the machine's table; `homes`
+// and `codes` have what is kept of the sections and the symbols. Each of the two passes over the relocations (the other is in `fixups`) has its own,
 // to be compiled into its loop.
 fn outcome_of(
     arch: Arch,
@@ -111,16 +111,15 @@ fn outcome_of(
     records: Records,
     word: u32,
     homes: &[u32],
-    starts: &[u32],
     undef: u32,
     codes: &[u16],
     k: u32,
 ) -> Outcome
     requires { ⌜ now types ≡ rowsOf arch ⌝ }
-    ensures { λ r. ⌜ r ≡ byHome arch (targetIn (now (homes .entry)) (now (starts .entry)) undef (now (codes .entry))) (wordHome word) (relocationIn (now (f .entry)) (recordAt records k)) ⌝ }
+    ensures { λ r. ⌜ r ≡ byHome arch (targetIn (now (homes .entry)) undef (now (codes .entry))) (wordHome word) (relocationIn (now (f .entry)) (recordAt records k)) ⌝ }
 {
     let r = object::read_relocation(f, records, k);
-    let target = targets::target_in(homes, starts, undef, codes, r.symbol);
+    let target = targets::target_in(homes, undef, codes, r.symbol);
     fixups::outcome_at(word, r.address, kinds::type_in(types, r.typ), target)
 }
 
@@ -131,7 +130,6 @@ fn write_section(
     f: &[u8],
     h: Header,
     homes: &[u32],
-    starts: &[u32],
     undef: u32,
     codes: &[u16],
     base: VA,
@@ -143,8 +141,8 @@ fn write_section(
     requires { ⌜ (now types ≡ rowsOf arch) × (i < 2 ^ 16) × (p .fixups ≤ 2 ^ 32 * i) × (p .skips ≤ 2 ^ 32 * i) ⌝ }
     ensures { λ r.
         ⌜ Step p
-        (overRecords (fixBytesAt (base .0) (outcome arch (now (f .entry)) h (homeIn (now (homes .entry))) (targetIn (now (homes .entry)) (now (starts .entry)) undef (now (codes .entry))))) i (relocationCount (now (f .entry)) h i))
-        (overRecords (skipBytesAt (outcome arch (now (f .entry)) h (homeIn (now (homes .entry))) (targetIn (now (homes .entry)) (now (starts .entry)) undef (now (codes .entry))))) i (relocationCount (now (f .entry)) h i))
+        (overRecords (fixBytesAt (base .0) (outcome arch (now (f .entry)) h (homeIn (now (homes .entry))) (targetIn (now (homes .entry)) undef (now (codes .entry))))) i (relocationCount (now (f .entry)) h i))
+        (overRecords (skipBytesAt (outcome arch (now (f .entry)) h (homeIn (now (homes .entry))) (targetIn (now (homes .entry)) undef (now (codes .entry))))) i (relocationCount (now (f .entry)) h i))
         (now (fixups .entry)) (now (fixups .exit)) (now (skips .entry)) (now (skips .exit)) r (2 ^ 32) ⌝ }
 {
     let records = object::records_of(f, h, i);
@@ -153,18 +151,7 @@ fn write_section(
     let mut q = p;
     let mut k: u32 = 0;
     while k < m {
-        let o = outcome_of(
-            arch,
-            types,
-            f,
-            records,
-            word,
-            homes,
-            starts,
-            undef,
-            codes,
-            k,
-        );
+        let o = outcome_of(arch, types, f, records, word, homes, undef, codes, k);
         q = put_outcome(base, i, k, o, q, fixups, skips);
         k += 1;
     }
@@ -178,7 +165,6 @@ fn write_next(
     f: &[u8],
     h: Header,
     homes: &[u32],
-    starts: &[u32],
     undef: u32,
     codes: &[u16],
     base: VA,
@@ -190,8 +176,8 @@ fn write_next(
     requires { ⌜ (now types ≡ rowsOf arch) × (i < 2 ^ 16) × (p .fixups ≤ 2 ^ 32 * i) × (p .skips ≤ 2 ^ 32 * i) ⌝ }
     ensures { λ r.
         ⌜ Step p
-        (overRecords (fixBytesAt (base .0) (outcome arch (now (f .entry)) h (homeIn (now (homes .entry))) (targetIn (now (homes .entry)) (now (starts .entry)) undef (now (codes .entry))))) i (relocationCount (now (f .entry)) h i))
-        (overRecords (skipBytesAt (outcome arch (now (f .entry)) h (homeIn (now (homes .entry))) (targetIn (now (homes .entry)) (now (starts .entry)) undef (now (codes .entry))))) i (relocationCount (now (f .entry)) h i))
+        (overRecords (fixBytesAt (base .0) (outcome arch (now (f .entry)) h (homeIn (now (homes .entry))) (targetIn (now (homes .entry)) undef (now (codes .entry))))) i (relocationCount (now (f .entry)) h i))
+        (overRecords (skipBytesAt (outcome arch (now (f .entry)) h (homeIn (now (homes .entry))) (targetIn (now (homes .entry)) undef (now (codes .entry))))) i (relocationCount (now (f .entry)) h i))
         (now (fixups .entry)) (now (fixups .exit)) (now (skips .entry)) (now (skips .exit)) r (2 ^ 32) ⌝ }
 {
     if le::word_at(homes, i as usize) == 0 {
@@ -203,7 +189,6 @@ fn write_next(
             f,
             h,
             homes,
-            starts,
             undef,
             codes,
             base,
@@ -222,7 +207,6 @@ fn write_with(
     f: &[u8],
     h: Header,
     homes: &[u32],
-    starts: &[u32],
     undef: u32,
     codes: &[u16],
     base: VA,
@@ -232,8 +216,8 @@ fn write_with(
     requires { ⌜ now types ≡ rowsOf arch ⌝ }
     ensures { λ _.
         ⌜ BothWritten
-        (fixTable (base .0) (outcome arch (now (f .entry)) h (homeIn (now (homes .entry))) (targetIn (now (homes .entry)) (now (starts .entry)) undef (now (codes .entry)))) (relocationCount (now (f .entry)) h) (h .sections))
-        (skipTable (outcome arch (now (f .entry)) h (homeIn (now (homes .entry))) (targetIn (now (homes .entry)) (now (starts .entry)) undef (now (codes .entry)))) (relocationCount (now (f .entry)) h) (h .sections))
+        (fixTable (base .0) (outcome arch (now (f .entry)) h (homeIn (now (homes .entry))) (targetIn (now (homes .entry)) undef (now (codes .entry)))) (relocationCount (now (f .entry)) h) (h .sections))
+        (skipTable (outcome arch (now (f .entry)) h (homeIn (now (homes .entry))) (targetIn (now (homes .entry)) undef (now (codes .entry)))) (relocationCount (now (f .entry)) h) (h .sections))
         (now (fixups .entry)) (now (fixups .exit)) (now (skips .entry)) (now (skips .exit)) ⌝ }
 {
     let n = h.sections as u32;
@@ -249,7 +233,6 @@ fn write_with(
             f,
             h,
             homes,
-            starts,
             undef,
             codes,
             base,
@@ -268,7 +251,6 @@ pub fn write_relocations(
     f: &[u8],
     h: Header,
     homes: &[u32],
-    starts: &[u32],
     undef: u32,
     codes: &[u16],
     base: VA,
@@ -277,42 +259,18 @@ pub fn write_relocations(
 )
     ensures { λ _.
         ⌜ BothWritten
-        (fixTable (base .0) (outcome arch (now (f .entry)) h (homeIn (now (homes .entry))) (targetIn (now (homes .entry)) (now (starts .entry)) undef (now (codes .entry)))) (relocationCount (now (f .entry)) h) (h .sections))
-        (skipTable (outcome arch (now (f .entry)) h (homeIn (now (homes .entry))) (targetIn (now (homes .entry)) (now (starts .entry)) undef (now (codes .entry)))) (relocationCount (now (f .entry)) h) (h .sections))
+        (fixTable (base .0) (outcome arch (now (f .entry)) h (homeIn (now (homes .entry))) (targetIn (now (homes .entry)) undef (now (codes .entry)))) (relocationCount (now (f .entry)) h) (h .sections))
+        (skipTable (outcome arch (now (f .entry)) h (homeIn (now (homes .entry))) (targetIn (now (homes .entry)) undef (now (codes .entry)))) (relocationCount (now (f .entry)) h) (h .sections))
         (now (fixups .entry)) (now (fixups .exit)) (now (skips .entry)) (now (skips .exit)) ⌝ }
 {
     match arch {
         Arch::X32 => {
             let types = kinds::X32_TYPES;
-            write_with(
-                arch,
-                &types,
-                f,
-                h,
-                homes,
-                starts,
-                undef,
-                codes,
-                base,
-                fixups,
-                skips,
-            );
+            write_with(arch, &types, f, h, homes, undef, codes, base, fixups, skips);
         }
         Arch::X64 => {
             let types = kinds::X64_TYPES;
-            write_with(
-                arch,
-                &types,
-                f,
-                h,
-                homes,
-                starts,
-                undef,
-                codes,
-                base,
-                fixups,
-                skips,
-            );
+            write_with(arch, &types, f, h, homes, undef, codes, base, fixups, skips);
         }
     }
 }

@@ -12,10 +12,10 @@ use Rattle.survey.specs.TableLaws.{few-cleared, many-cleared}
 
 -- ---- the arrays
 module _ (f : List ℕ) (h : Header) (r : Bool) (is : h ≡ headerOf f) (e : r ≡ fewRecords h) where
-  pub few-arrays : r ≡ true → Cleared (headerOf f) (replicate FEW-SECTIONS 0) (replicate FEW-SECTIONS 0) (replicate FEW-SYMBOLS 0)
+  pub few-arrays : r ≡ true → Cleared (headerOf f) (replicate FEW-SECTIONS 0) (replicate FEW-SYMBOLS 0)
   few-arrays t = few-cleared (headerOf f) (rw is at (sym e ∙ t))
 
-  pub many-arrays : r ≡ false → Cleared (headerOf f) (replicate MAX-SECTIONS 0) (replicate MAX-SECTIONS 0) (replicate MAX-SYMBOLS 0)
+  pub many-arrays : r ≡ false → Cleared (headerOf f) (replicate MAX-SECTIONS 0) (replicate MAX-SYMBOLS 0)
   many-arrays t = many-cleared (headerOf f) (rw is at (sym e ∙ t))
 
 pub ruleset sizes = (few-arrays, many-arrays)

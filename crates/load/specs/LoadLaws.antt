@@ -13,8 +13,8 @@ use Rattle.le.specs.Le.{splice, part, part-splice, splice-above}
 use Rattle.object.specs.declared.Header.{Header}
 use Rattle.object.specs.Format.{headerOf}
 use Rattle.object.specs.Section.{relocationCount}
-use Rattle.layout.specs.Layout.{undefStart, mappedPages, startsTo, tableRecords}
-use Rattle.homes.specs.Home.{sectionHome, homeRecords}
+use Rattle.layout.specs.Layout.{undefStart, mappedPages, tableRecords}
+use Rattle.homes.specs.Home.{sectionHome, homeRecord}
 use Rattle.limits.specs.Limits.{MAX-PAGES, MAX-EXTERNS}
 use Rattle.limits.specs.Records.{SECTION-BYTES, SYMBOL-BYTES, EXTERN-BYTES, FIXUP-BYTES, SKIP-BYTES}
 use Rattle.externs.specs.Externs.{externs}
@@ -148,8 +148,8 @@ pub record LoadLeaves (f : List ℕ) (base : ℕ) (s s′ : Storage) (c : Counts
   pub image : s′ .image ≡ laidImage f (headerOf f) base (length (externs f (headerOf f))) (s .image)
   pub image-behind : (k : ℕ) → PAGE-SIZE * c .pages ≤ k → getD (s′ .image) k 0 ≡ getD (s .image) k 0
   pub marks : Keeps (markBytes (c .pages) (wordsFor (c .pages))) (WORD-BYTES * wordsFor (c .pages)) (s .marks) (s′ .marks)
-  pub sections : Keeps (sectionTable f (headerOf f) base (startsTo f (headerOf f) (headerOf f .sections)) (undefStart f (headerOf f))) (SECTION-BYTES * c .sections) (s .sections) (s′ .sections)
-  pub symbols : Keeps (symbolTable f (headerOf f) base (sectionHome f (headerOf f)) (homeRecords f (headerOf f) (headerOf f .sections))) (SYMBOL-BYTES * c .symbols) (s .symbols) (s′ .symbols)
+  pub sections : Keeps (sectionTable f (headerOf f) base (sectionHome f (headerOf f)) (undefStart f (headerOf f))) (SECTION-BYTES * c .sections) (s .sections) (s′ .sections)
+  pub symbols : Keeps (symbolTable f (headerOf f) base (sectionHome f (headerOf f)) (homeRecord f (headerOf f))) (SYMBOL-BYTES * c .symbols) (s .symbols) (s′ .symbols)
   pub externs : Keeps (externTable f (headerOf f) base (undefStart f (headerOf f)) (externs f (headerOf f)) (length (externs f (headerOf f)))) (EXTERN-BYTES * c .externs) (s .externs) (s′ .externs)
   pub fixups : Keeps (fixTable base (outcomes f (headerOf f)) (relocationCount f (headerOf f)) (headerOf f .sections)) (FIXUP-BYTES * c .fixups) (s .fixups) (s′ .fixups)
   pub skips : Keeps (skipTable (outcomes f (headerOf f)) (relocationCount f (headerOf f)) (headerOf f .sections)) (SKIP-BYTES * c .skips) (s .skips) (s′ .skips)

@@ -26,13 +26,11 @@ pub fn load(
     let h = object::read_header(f);
     if survey::few_records(h) {
         let mut homes = [0u32; limits::FEW_SECTIONS];
-        let mut starts = [0u32; limits::FEW_SECTIONS];
         let mut codes = [0u16; limits::FEW_SYMBOLS];
         loading::load_with(
             f,
             base,
             &mut homes,
-            &mut starts,
             &mut codes,
             image,
             marks,
@@ -44,13 +42,11 @@ pub fn load(
         )
     } else {
         let mut homes = [0u32; limits::MAX_SECTIONS];
-        let mut starts = [0u32; limits::MAX_SECTIONS];
         let mut codes = [0u16; limits::MAX_SYMBOLS];
         loading::load_with(
             f,
             base,
             &mut homes,
-            &mut starts,
             &mut codes,
             image,
             marks,

@@ -39,14 +39,14 @@ refused-is code n c new s e =
     rw e (record { says = load-says-refused (suc n) c (λ q. absurd (omega arith)); leaves = rw z })
 
 -- a plan that is ready
-module _ (f : List ℕ) (h : Header) (homes starts codes slots : List ℕ) (base : ℕ) (l : Lengths) (p : Plan) (plans : Plans f h base l homes starts codes slots p) (c : Counts) (n : ℕ) (is : p ≡ Ready c n) where
+module _ (f : List ℕ) (h : Header) (homes codes slots : List ℕ) (base : ℕ) (l : Lengths) (p : Plan) (plans : Plans f h base l homes codes slots p) (c : Counts) (n : ℕ) (is : p ≡ Ready c n) where
   abbrev ready-code : ℕ
   ready-code = firstFailed (planChecks f h base l)
 
   told : (ready-code ≡ 0) × (c ≡ counts f h) × (n ≡ length (externs f h))
   told = plan-says ready-code (counts f h) (length (externs f h)) c n (sym is ∙ plans .says)
 
-  found : Found f h homes starts codes slots
+  found : Found f h homes codes slots
   found = plans .found (told .0)
 
   externs-are : part slots 0 n ≡ externs f h
@@ -57,38 +57,38 @@ module _ (f : List ℕ) (h : Header) (homes starts codes slots : List ℕ) (base
       let y : slots ≡ externs f h ++ replicate (EXTERN-ROOM - length (externs f h)) 0 = rw z at (found .words) in
       rw (m, y, part-front) (take-append-seam (externs f h) _)
 
-  pub known-is : Known f h homes starts codes (part slots 0 n)
+  pub known-is : Known f h homes codes (part slots 0 n)
   known-is =
-      record { home = found .home; target = found .target; begin = found .begin; names = externs-are; sections = found .sections; pages = found .pages; few = rw externs-are (found .names) }
+      record { home = found .home; row = found .row; target = found .target; names = externs-are; pages = found .pages; few = rw externs-are (found .names) }
 
 -- the slots' array keeps its length
 pub slots-long : {n : ℕ} → (length (replicate {A = ℕ} EXTERN-ROOM 0) ≡ EXTERN-ROOM → n ≡ EXTERN-ROOM) → EXTERN-ROOM ≡ n
 slots-long e = sym (e (length-replicate {A = ℕ} EXTERN-ROOM 0))
 
 -- what the plan gives for arrays of zeros
-module _ (f homes₀ starts₀ codes₀ : List ℕ) (base : ℕ) (s : Storage) (homes starts codes slots : List ℕ) (p : Plan)
-    (made : Blank (headerOf f) homes₀ starts₀ codes₀ (replicate EXTERN-ROOM 0) → Plans f (headerOf f) base (lengthsOf s) homes starts codes slots p) where
+module _ (f homes₀ codes₀ : List ℕ) (base : ℕ) (s : Storage) (homes codes slots : List ℕ) (p : Plan)
+    (made : Blank (headerOf f) homes₀ codes₀ (replicate EXTERN-ROOM 0) → Plans f (headerOf f) base (lengthsOf s) homes codes slots p) where
   abbrev h : Header
   h = headerOf f
 
   abbrev code : ℕ
   code = firstFailed (loadChecks f h base s)
 
-  plans : Cleared h homes₀ starts₀ codes₀ → Plans f h base (lengthsOf s) homes starts codes slots p
+  plans : Cleared h homes₀ codes₀ → Plans f h base (lengthsOf s) homes codes slots p
   plans zeros = made (record { zeros = zeros; no-slots = refl })
 
   no-case : (k n : ℕ) → code ≡ k → k ≡ n → (k ≡ 0 → ⊥) → Loads f base s s (Refused n)
   no-case zero n e q z = absurd (z refl)
   no-case (suc k) n e q z = rw (← q) (refused-is code k (counts f h) (stored f h base s) s e)
 
-  pub load-no : (n : ℕ) → p ≡ plan.Refused n → Cleared h homes₀ starts₀ codes₀ → Loads f base s s (Refused n)
+  pub load-no : (n : ℕ) → p ≡ plan.Refused n → Cleared h homes₀ codes₀ → Loads f base s s (Refused n)
   load-no n e zeros =
       let t = plan-says-no code (counts f h) (length (externs f h)) n (sym e ∙ plans zeros .says) in
       no-case code n refl (t .0) (t .1)
 
-  pub load-yes : (c : Counts) (n : ℕ) (after : Storage) → p ≡ Ready c n → (Known f h homes starts codes (part slots 0 n) → after ≡ stored f h base s) → Cleared h homes₀ starts₀ codes₀ → Loads f base s after (Loaded c)
+  pub load-yes : (c : Counts) (n : ℕ) (after : Storage) → p ≡ Ready c n → (Known f h homes codes (part slots 0 n) → after ≡ stored f h base s) → Cleared h homes₀ codes₀ → Loads f base s after (Loaded c)
   unfolding loadAnswer pick
   load-yes c n after is wrote zeros =
-      let t = told f h homes starts codes slots base (lengthsOf s) p (plans zeros) c n is in
-      let e : after ≡ stored f h base s = wrote (known-is f h homes starts codes slots base (lengthsOf s) p (plans zeros) c n is) in
+      let t = told f h homes codes slots base (lengthsOf s) p (plans zeros) c n is in
+      let e : after ≡ stored f h base s = wrote (known-is f h homes codes slots base (lengthsOf s) p (plans zeros) c n is) in
       record { says = rw (t .0) (ap Loaded (t .1)); leaves = rw (t .0) e }

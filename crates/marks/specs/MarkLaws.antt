@@ -1,16 +1,15 @@
 -- What holds of the marks, as later layers ask it: the count is the count of marked pages.
 use mathlib.Core.Path.{_≡_, refl, sym, _∙_}
-use mathlib.Core.Bool.{Bool, true, false}
+use mathlib.Core.Bool.{true, false}
 use mathlib.Core.List.{List}
-use mathlib.Core.Logic.{⊎-elim}
 use Prim.Native.Nat.{ℕ, zero, suc, _+_, _-_, _*_, _/_, _%_, _^_, _≤_, _<_}
 use native.Mathlib.Omega.{arith}
 use native.Mathlib.Nat.{pow-suc, pow-zero, div-one, mul-comm, div-div-eq-div-mul, mod-eq-of-lt}
 use lib.ListN.{length}
 use lib.Count.{ones, ones-step, ones-le}
 use lib.Dec.{eqb}
-use Rattle.util.specs.Pick.{pick, yes-no}
-use Rattle.util.specs.Prefix.{all-at, all-of, sumTo, countTo, sum-front, sum-plus, sum-same, sum-zero, sum-rows, count-is-sum}
+use Rattle.util.specs.Pick.{pick}
+use Rattle.util.specs.Prefix.{all-at, all-of, sumTo, countTo, sum-front, sum-plus, sum-same, sum-zero, sum-rows, count-is-sum, count-most}
 use Rattle.le.specs.Le.{get-below, IsBytes}
 use Rattle.marks.specs.Marks.{WORD-PAGES, WORD-BYTES, marked, allMarked, pageCount, wordAt}
 
@@ -80,13 +79,6 @@ module _ (m : List ℕ) (b : IsBytes m) where
       let t = sum-plus (λ i. pick (marked m i) 1 0) n d in
       count-all ∙ count-is-sum (marked m) (WORD-PAGES * (length m / WORD-BYTES)) ∙ rw e (t ∙ rw r (omega arith)) ∙ sym (count-is-sum (marked m) n)
 
--- n numbers hold no more than n that pass, so that count fits wherever n does, and `page_count` does not wrap
-pub count-most : (p : ℕ → Bool) (n : ℕ) → countTo p n ≤ n
-unfolding countTo pick
-count-most p zero = omega arith
-count-most p (suc n) =
-    let r = count-most p n in
-    ⊎-elim (λ e. rw e (omega arith)) (λ e. rw e (omega arith)) (yes-no (p n))
-
+-- no more than n are marked below n, so that count fits wherever n does, and `page_count` does not wrap
 pub count-exact : (m : List ℕ) (n : ℕ) → pageCount m ≡ countTo (marked m) n → n < 2 ^ 64 → pageCount m % 2 ^ 64 ≡ countTo (marked m) n
 count-exact m n e h = let k = count-most (marked m) n in rw e (mod-eq-of-lt (omega arith))

@@ -24,7 +24,7 @@ module _ (f : List ℕ) (h : Header) (i : ℕ) where
   abbrev pub uninitialized : Bool
   uninitialized = uninitializedBy (flags f h i)
 
-  -- where its bytes start in the file, which homes are found by; 0 if it is uninitialised
+  -- where its bytes start in the file; 0 if it is uninitialised
   unfoldable pub fileStart : ℕ
   fileStart = pick uninitialized 0 (rawPointer f h i)
 

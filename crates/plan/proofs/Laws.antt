@@ -7,7 +7,7 @@ use Prim.Native.Nat.{ℕ, zero, suc, _+_, _-_, _*_, _/_, _≤_, _<_}
 use native.Mathlib.Omega.{arith}
 use native.Mathlib.Nat.{mul-comm, suc-mul, mul-le-mul-left, div-mul-le-self, lt-div-mul-add}
 use lib.Dec.{eqb, leb}
-use lib.ListN.{length, length-take, length-replicate}
+use lib.ListN.{length, length-take}
 use borrow.Author.Tests.{le-leb, lt-leb, ne-eqb, leb-true}
 use Rattle.limits.specs.Limits.{MAX-SECTIONS, MAX-PAGES, MAX-EXTERNS}
 use Rattle.limits.specs.Records.{SECTION-BYTES, SYMBOL-BYTES, EXTERN-BYTES, FIXUP-BYTES, SKIP-BYTES}
@@ -20,7 +20,7 @@ use Rattle.le.specs.Le.{splice}
 use Rattle.marks.specs.Marks.{WORD-BYTES, wordsFor}
 use Rattle.object.specs.declared.Header.{Header}
 use Rattle.object.specs.Format.{headerOf}
-use Rattle.layout.specs.Layout.{startsTo, pagesTo, mappedPages, undefStart}
+use Rattle.layout.specs.Layout.{pagesTo, mappedPages, undefStart}
 use Rattle.homes.specs.Home.{homesTo, homeIn, sectionHome}
 use Rattle.checks.specs.Checks.{pagesOk, baseOk}
 use Rattle.checks.specs.CheckLaws.{pages-are}
@@ -38,8 +38,8 @@ use Rattle.survey.specs.declared.answer.Counts.{Counts}
 use Rattle.survey.specs.declared.answer.Survey.{Survey}
 use Rattle.survey.specs.declared.answer.Survey.the-variants as survey
 use Rattle.survey.specs.Survey.{Check, check, firstFailed, earlyChecks, pageChecks, externChecks, targetChecks, counts, tally, tallyBy, answerBy}
-use Rattle.survey.specs.Surveying.{Fits, behindPages, plannedBy, namesIn, sectionRoom, homeWords, startWords, codeWords, Cleared}
-use Rattle.survey.specs.TableLaws.{sections-room, homes-whole, starts-front, names-whole, targets-whole}
+use Rattle.survey.specs.Surveying.{Fits, behindPages, plannedBy, namesIn, homeWords, codeWords, Cleared}
+use Rattle.survey.specs.TableLaws.{homes-whole, records-whole, names-whole, targets-whole}
 use Rattle.survey.specs.SurveyLaws.{check-holds, checks-hold, failed-first, Early, Ordered, early, early-rest, with-pages, records-rest, fits-is}
 use Rattle.plan.specs.declared.Lengths.{Lengths}
 use Rattle.plan.specs.declared.Plan.{Plan}
@@ -137,26 +137,26 @@ countOf (Count n) = n
 countOf TooMany = 0
 
 -- ---- 9 and what follows
-module _ (f : List ℕ) (h : Header) (homes starts codes : List ℕ) (l : Lengths) (codes′ buf : List ℕ) (r : Names) (says : r ≡ namesOf (namesIn f h homes starts codes))
-    (words : buf ≡ slotWords (namesIn f h homes starts codes)) (coded : CodesAfter f h codes (namesIn f h homes starts codes) codes′) where
+module _ (f : List ℕ) (h : Header) (homes codes : List ℕ) (l : Lengths) (codes′ buf : List ℕ) (r : Names) (says : r ≡ namesOf (namesIn f h codes))
+    (words : buf ≡ slotWords (namesIn f h codes)) (coded : CodesAfter f h codes (namesIn f h codes) codes′) where
   abbrev ys : List ℕ
-  ys = namesIn f h homes starts codes
+  ys = namesIn f h codes
 
   abbrev target : ℕ → Target
-  target = targetIn homes starts (undefStart f h) (slotted f h ys codes)
+  target = targetIn homes (undefStart f h) (slotted f h ys codes)
 
   holds : Holds ys buf r
   holds = kept-holds ys buf r says words
 
-  pub plan-over : r ≡ TooMany → PlannedIn f h homes starts codes l codes′ buf (plan.Refused EXTERNS)
+  pub plan-over : r ≡ TooMany → PlannedIn f h homes codes l codes′ buf (plan.Refused EXTERNS)
   unfolding firstFailed pick
   plan-over e =
       let z : leb (length ys) MAX-EXTERNS ≡ false = lt-leb (length ys) MAX-EXTERNS (over-length ys buf r holds e) in
       record { says = rw z (plan-refused (EXTERNS - 1) (plannedCounts f h (homeIn homes) target (length ys) l) (length ys)); words = words; coded = coded }
 
   pub plan-few : (n : ℕ) (u : RVA) (v : Survey) (x : Plan) → mappedPages f h ≤ MAX-PAGES → u ≡ rva (undefStart f h) → r ≡ Count n
-      → (u ≡ rva (undefStart f h) → v ≡ plannedBy f h (homeIn homes) (targetIn homes starts (undefStart f h) codes′) n) → x ≡ withRoom v l n
-      → PlannedIn f h homes starts codes l codes′ buf x
+      → (u ≡ rva (undefStart f h) → v ≡ plannedBy f h (homeIn homes) (targetIn homes (undefStart f h) codes′) n) → x ≡ withRoom v l n
+      → PlannedIn f h homes codes l codes′ buf x
   unfolding firstFailed pick countOf
   plan-few n u v x room start e d y =
       let few = count-room ys buf r holds n e in
@@ -191,24 +191,24 @@ module _ (f : List ℕ) (h : Header) (base code : ℕ) (is : code ≡ firstFaile
   seven = early f h [] (checks-hold (baseOk base) (BASE - 1) (earlyChecks f h) (sym is ∙ z))
 
 -- ---- the whole plan
-module _ (f : List ℕ) (h : Header) (base : ℕ) (l : Lengths) (code : ℕ) (homes₀ starts₀ codes₀ slots₀ : List ℕ) (is : code ≡ firstFailed (firstChecks f h base)) (head : h ≡ headerOf f) where
+module _ (f : List ℕ) (h : Header) (base : ℕ) (l : Lengths) (code : ℕ) (homes₀ codes₀ slots₀ : List ℕ) (is : code ≡ firstFailed (firstChecks f h base)) (head : h ≡ headerOf f) where
   abbrev behind : List Check
   behind = externChecks (length (externs f h)) ++ (targetChecks (tally f h) ++ roomCheck (counts f h) l)
 
   abbrev whole : ℕ
   whole = firstFailed (planChecks f h base l)
 
-  no-by : (homes starts codes slots : List ℕ) (k : ℕ) → whole ≡ suc k → Plans f (headerOf f) base l homes starts codes slots (plan.Refused (suc k))
-  no-by homes starts codes slots k g =
-      let p : Plans f h base l homes starts codes slots (plan.Refused (suc k)) =
+  no-by : (homes codes slots : List ℕ) (k : ℕ) → whole ≡ suc k → Plans f (headerOf f) base l homes codes slots (plan.Refused (suc k))
+  no-by homes codes slots k g =
+      let p : Plans f h base l homes codes slots (plan.Refused (suc k)) =
       record { says = rw g (plan-refused k (counts f h) (length (externs f h))); found = λ e. absurd (omega arith) } in
       rw (← head) p
 
-  first-no : (k : ℕ) → k ≡ firstFailed (firstChecks f h base) → (k ≡ 0 → ⊥) → Plans f (headerOf f) base l homes₀ starts₀ codes₀ slots₀ (plan.Refused k)
+  first-no : (k : ℕ) → k ≡ firstFailed (firstChecks f h base) → (k ≡ 0 → ⊥) → Plans f (headerOf f) base l homes₀ codes₀ slots₀ (plan.Refused k)
   first-no zero e z = absurd (z refl)
-  first-no (suc k) e z = no-by homes₀ starts₀ codes₀ slots₀ k (failed-first (firstChecks f h base) (pageChecks f h ++ behind) k (sym e))
+  first-no (suc k) e z = no-by homes₀ codes₀ slots₀ k (failed-first (firstChecks f h base) (pageChecks f h ++ behind) k (sym e))
 
-  pub plans-no : (code ≡ 0 → ⊥) → Blank (headerOf f) homes₀ starts₀ codes₀ slots₀ → Plans f (headerOf f) base l homes₀ starts₀ codes₀ slots₀ (plan.Refused code)
+  pub plans-no : (code ≡ 0 → ⊥) → Blank (headerOf f) homes₀ codes₀ slots₀ → Plans f (headerOf f) base l homes₀ codes₀ slots₀ (plan.Refused code)
   plans-no z blank = first-no code is z
 
   -- 8
@@ -216,13 +216,13 @@ module _ (f : List ℕ) (h : Header) (base : ℕ) (l : Lengths) (code : ℕ) (ho
   unfolding firstFailed pick
   whole-pages z t = rw (allowed f h base code is z) (early-rest f h (pageChecks f h ++ behind) (seven f h base code is z) ∙ rw t)
 
-  pub plans-large : (starts : List ℕ) (b : Bool) (u : RVA) → code ≡ 0 → b ≡ leb (pagesTo (u .0)) MAX-PAGES → b ≡ false → u ≡ rva (undefStart f h)
-      → Blank (headerOf f) homes₀ starts₀ codes₀ slots₀ → Plans f (headerOf f) base l homes₀ starts codes₀ slots₀ (plan.Refused PAGES)
-  plans-large starts b u z q e start blank = no-by homes₀ starts codes₀ slots₀ (PAGES - 1) (whole-pages z (sym (pages-are f h b u q start) ∙ e))
+  pub plans-large : (homes : List ℕ) (b : Bool) (u : RVA) → code ≡ 0 → b ≡ leb (pagesTo (u .0)) MAX-PAGES → b ≡ false → u ≡ rva (undefStart f h)
+      → Blank (headerOf f) homes₀ codes₀ slots₀ → Plans f (headerOf f) base l homes codes₀ slots₀ (plan.Refused PAGES)
+  plans-large homes b u z q e start blank = no-by homes codes₀ slots₀ (PAGES - 1) (whole-pages z (sym (pages-are f h b u q start) ∙ e))
 
   -- with the words filled, the plan by them is the one by the rules, and where it is ready they say what the rules do
-  module _ (ok : Ordered f h) (fits : Fits f h) (codes slots : List ℕ) (x : Plan) (p : PlannedIn f h (homeWords f h) (startWords f h) (codeWords f h) l codes slots x) where
-    whole-plan : latePlan f h (homeIn (homeWords f h)) (targetIn (homeWords f h) (startWords f h) (undefStart f h) (slotted f h (externs f h) (codeWords f h))) (length (externs f h)) l
+  module _ (ok : Ordered f h) (fits : Fits f h) (codes slots : List ℕ) (x : Plan) (p : PlannedIn f h (homeWords f h) (codeWords f h) l codes slots x) where
+    whole-plan : latePlan f h (homeIn (homeWords f h)) (targetIn (homeWords f h) (undefStart f h) (slotted f h (externs f h) (codeWords f h))) (length (externs f h)) l
         ≡ latePlan f h (sectionHome f h) (targets f h) (length (externs f h)) l
     unfolding firstFailed planBy pick
     whole-plan =
@@ -231,21 +231,21 @@ module _ (f : List ℕ) (h : Header) (base : ℕ) (l : Lengths) (code : ℕ) (ho
     whole-says : x ≡ planBy (firstFailed behind) (counts f h) (length (externs f h))
     whole-says = (rw (names-whole f h fits) at (p .says)) ∙ whole-plan
 
-    whole-found : length (externs f h) ≤ MAX-EXTERNS → Found f h (homeWords f h) (startWords f h) codes slots
+    whole-found : length (externs f h) ≤ MAX-EXTERNS → Found f h (homeWords f h) codes slots
     whole-found few =
         let z : leb (length (externs f h)) MAX-EXTERNS ≡ true = le-leb (length (externs f h)) MAX-EXTERNS few in
         let c : codes ≡ slotted f h (externs f h) (codeWords f h) = (rw (names-whole f h fits) at (p .coded)) .few z in
         record {
           home = homes-whole f h fits;
+          row = records-whole f h fits;
           target = rw c (targets-whole f h fits (ok .numbers) few);
-          begin = starts-front f h fits;
           words = rw (names-whole f h fits) at (p .words);
           sections = fits .sections;
           pages = fits .pages;
           names = few;
         }
 
-    whole-yes : whole ≡ firstFailed behind → Plans f h base l (homeWords f h) (startWords f h) codes slots x
+    whole-yes : whole ≡ firstFailed behind → Plans f h base l (homeWords f h) codes slots x
     whole-yes g =
         record { says = rw g whole-says; found = λ w. whole-found (leb-true (length (externs f h)) MAX-EXTERNS (check-holds _ _ _ (sym g ∙ w))) }
 
@@ -253,16 +253,14 @@ module _ (f : List ℕ) (h : Header) (base : ℕ) (l : Lengths) (code : ℕ) (ho
   unfolding firstFailed pick
   whole-is a o = rw a (records-rest f h behind o)
 
-  pub plans-yes : (homes starts codes codes′ slots : List ℕ) (x : Plan) (b : Bool) (u : RVA) → code ≡ 0 → b ≡ leb (pagesTo (u .0)) MAX-PAGES → b ≡ true → u ≡ rva (undefStart f h) → (h .sections ≤ length homes₀ → homes ≡ splice homes₀ 0 (homesTo f h (h .sections))) → starts ≡ splice starts₀ 0 (startsTo f h (h .sections))
-      → (h .sections ≤ MAX-SECTIONS → codes ≡ splice codes₀ 0 (codesTo f h (h .symbols))) → PlannedIn f h homes starts codes l codes′ slots x → Blank (headerOf f) homes₀ starts₀ codes₀ slots₀ → Plans f (headerOf f) base l homes starts codes′ slots x
-  plans-yes homes starts codes codes′ slots x b u z t y start e d w p blank =
+  pub plans-yes : (homes codes codes′ slots : List ℕ) (x : Plan) (b : Bool) (u : RVA) → code ≡ 0 → b ≡ leb (pagesTo (u .0)) MAX-PAGES → b ≡ true → u ≡ rva (undefStart f h) → homes ≡ splice homes₀ 0 (homesTo f h (h .sections))
+      → (h .sections ≤ MAX-SECTIONS → codes ≡ splice codes₀ 0 (codesTo f h (h .symbols))) → PlannedIn f h homes codes l codes′ slots x → Blank (headerOf f) homes₀ codes₀ slots₀ → Plans f (headerOf f) base l homes codes′ slots x
+  plans-yes homes codes codes′ slots x b u z t y start e w p blank =
       let o = with-pages f h (seven f h base code is z) (sym (pages-are f h b u t start) ∙ y) in
       let fits = fits-is f h head o in
-      let clear : Cleared h homes₀ starts₀ codes₀ = rw (← head) at (blank .zeros) in
-      let room : h .sections ≤ length homes₀ = rw (clear .no-homes, length-replicate {A = ℕ} (sectionRoom h) 0) (sections-room h (fits .sections)) in
-      let a : homes ≡ homeWords f h = rw (clear .no-homes) at (e room) in
-      let b′ : starts ≡ startWords f h = rw (clear .no-starts) at d in
+      let clear : Cleared h homes₀ codes₀ = rw (← head) at (blank .zeros) in
+      let a : homes ≡ homeWords f h = rw (clear .no-homes) at e in
       let c : codes ≡ codeWords f h = rw (clear .no-codes) at (w (fits .sections)) in
-      let q : Plans f h base l homes starts codes′ slots x =
-      rw (a, b′) (whole-yes o fits codes′ slots x (rw (a, b′, c) at p) (whole-is (allowed f h base code is z) o)) in
+      let q : Plans f h base l homes codes′ slots x =
+      rw a (whole-yes o fits codes′ slots x (rw (a, c) at p) (whole-is (allowed f h base code is z) o)) in
       rw (← head) q

@@ -10,10 +10,9 @@ use Rattle.limits.specs.Records.{SECTION-BYTES, SYMBOL-BYTES, EXTERN-BYTES, FIX
 use Rattle.refusal.specs.Refusal.{BASE, STORAGE}
 use Rattle.util.specs.Pick.{pick}
 use Rattle.arch.specs.Page.{PAGE-SIZE}
-use Rattle.le.specs.Le.{part}
 use Rattle.object.specs.declared.Header.{Header}
-use Rattle.layout.specs.Layout.{undefStart, mappedPages, startsTo}
-use Rattle.homes.specs.Home.{homeIn, sectionHome}
+use Rattle.layout.specs.Layout.{undefStart, mappedPages}
+use Rattle.homes.specs.Home.{sectionHome, homeRecord, homeIn, recordIn}
 use Rattle.checks.specs.Checks.{baseOk}
 use Rattle.marks.specs.Marks.{WORD-BYTES, wordsFor}
 use Rattle.externs.specs.Externs.{externs, slotWords}
@@ -57,21 +56,21 @@ unfoldable pub planBy : ℕ → Counts → ℕ → Plan
 planBy code c n = pick (eqb code 0) (Ready c n) (Refused code)
 
 -- arrays of zeros, with the room that the file's records ask for
-pub record Blank (h : Header) (homes starts codes slots : List ℕ) : Type 0 where
-  pub zeros : Cleared h homes starts codes
+pub record Blank (h : Header) (homes codes slots : List ℕ) : Type 0 where
+  pub zeros : Cleared h homes codes
   pub no-slots : slots ≡ replicate EXTERN-ROOM 0
 
 -- arrays that say what the rules do, and the limits
-pub record Found (f : List ℕ) (h : Header) (homes starts codes slots : List ℕ) : Type 0 where
+pub record Found (f : List ℕ) (h : Header) (homes codes slots : List ℕ) : Type 0 where
   pub home : homeIn homes ≡ sectionHome f h
-  pub target : targetIn homes starts (undefStart f h) codes ≡ targets f h
-  pub begin : part starts 0 (h .sections) ≡ startsTo f h (h .sections)
+  pub row : recordIn homes ≡ homeRecord f h
+  pub target : targetIn homes (undefStart f h) codes ≡ targets f h
   pub words : slots ≡ slotWords (externs f h)
   pub sections : h .sections ≤ MAX-SECTIONS
   pub pages : mappedPages f h ≤ MAX-PAGES
   pub names : length (externs f h) ≤ MAX-EXTERNS
 
 -- what the plan says by the checks' code, and where that is 0 what it has found
-pub record Plans (f : List ℕ) (h : Header) (base : ℕ) (l : Lengths) (homes starts codes slots : List ℕ) (r : Plan) : Type 0 where
+pub record Plans (f : List ℕ) (h : Header) (base : ℕ) (l : Lengths) (homes codes slots : List ℕ) (r : Plan) : Type 0 where
   pub says : r ≡ planBy (firstFailed (planChecks f h base l)) (counts f h) (length (externs f h))
-  pub found : firstFailed (planChecks f h base l) ≡ 0 → Found f h homes starts codes slots
+  pub found : firstFailed (planChecks f h base l) ≡ 0 → Found f h homes codes slots

@@ -48,7 +48,7 @@ module _ (f : List ℕ) (h : Header) (home : ℕ → Offset) (target : ℕ → T
   latePlan = planBy (firstFailed lateChecks) plannedCounts n
 
 -- by the words that are kept, with what becomes of them
-pub record PlannedIn (f : List ℕ) (h : Header) (homes starts codes : List ℕ) (l : Lengths) (codes′ slots : List ℕ) (r : Plan) : Type 0 where
-  pub says : r ≡ latePlan f h (homeIn homes) (targetIn homes starts (undefStart f h) (slotted f h (namesIn f h homes starts codes) codes)) (length (namesIn f h homes starts codes)) l
-  pub words : slots ≡ slotWords (namesIn f h homes starts codes)
-  pub coded : CodesAfter f h codes (namesIn f h homes starts codes) codes′
+pub record PlannedIn (f : List ℕ) (h : Header) (homes codes : List ℕ) (l : Lengths) (codes′ slots : List ℕ) (r : Plan) : Type 0 where
+  pub says : r ≡ latePlan f h (homeIn homes) (targetIn homes (undefStart f h) (slotted f h (namesIn f h codes) codes)) (length (namesIn f h codes)) l
+  pub words : slots ≡ slotWords (namesIn f h codes)
+  pub coded : CodesAfter f h codes (namesIn f h codes) codes′

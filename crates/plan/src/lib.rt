@@ -92,22 +92,17 @@ fn plan_names(
     h: Header,
     l: Lengths,
     homes: &[u32],
-    starts: &[u32],
     undef: RVA,
     codes: &mut [u16],
     slots: &mut [u32; limits::EXTERN_ROOM],
 ) -> Plan
     requires { ⌜ (mappedPages (now f) h ≤ MAX-PAGES) × (undef ≡ rva (undefStart (now f) h)) ⌝ }
-    ensures { λ r. ⌜ PlannedIn (now (f .entry)) h (now (homes .entry)) (now (starts .entry)) (now (codes .entry)) l (now (codes .exit)) (now (slots .exit)) r ⌝ }
+    ensures { λ r. ⌜ PlannedIn (now (f .entry)) h (now (homes .entry)) (now (codes .entry)) l (now (codes .exit)) (now (slots .exit)) r ⌝ }
     ensures { λ _. ⌜ length (now (slots .exit)) ≡ EXTERN-ROOM ⌝ }
 {
     match externs::collect(f, h, codes, slots) {
         Names::TooMany => Plan::Refused(refusal::EXTERNS),
-        Names::Count(n) => with_room(
-            survey::survey_planned(f, h, homes, starts, undef, codes, n),
-            l,
-            n,
-        ),
+        Names::Count(n) => with_room(survey::survey_planned(f, h, homes, undef, codes, n), l, n),
     }
 }
 
@@ -129,23 +124,21 @@ pub fn plan_file(
     base: VA,
     l: Lengths,
     homes: &mut [u32],
-    starts: &mut [u32],
     codes: &mut [u16],
     slots: &mut [u32; limits::EXTERN_ROOM],
 ) -> Plan
     ensures { λ r.
-        ⌜ (Blank (headerOf (now (f .entry))) (now (homes .entry)) (now (starts .entry)) (now (codes .entry)) (now (slots .entry))
-        → Plans (now (f .entry)) (headerOf (now (f .entry))) (base .0) l (now (homes .exit)) (now (starts .exit)) (now (codes .exit)) (now (slots .exit)) r) ⌝ }
+        ⌜ (Blank (headerOf (now (f .entry))) (now (homes .entry)) (now (codes .entry)) (now (slots .entry))
+        → Plans (now (f .entry)) (headerOf (now (f .entry))) (base .0) l (now (homes .exit)) (now (codes .exit)) (now (slots .exit)) r) ⌝ }
     ensures { λ _. ⌜ (length (now (slots .entry)) ≡ EXTERN-ROOM → length (now (slots .exit)) ≡ EXTERN-ROOM) ⌝ }
 {
     let h = object::read_header(f);
     let code = first_code(f, h, base);
     if code == 0 {
-        let undef = layout::fill_starts(f, h, starts);
+        let undef = homes::fill_homes(f, h, homes);
         if checks::pages_fit(undef) {
-            home_search::fill_homes(f, h, homes);
             codes::fill_codes(f, h, codes);
-            plan_names(f, h, l, homes, starts, undef, codes, slots)
+            plan_names(f, h, l, homes, undef, codes, slots)
         } else {
             Plan::Refused(refusal::PAGES)
         }

@@ -15,7 +15,8 @@ use Rattle.arch.specs.Page.{PAGE-SIZE}
 use Rattle.le.specs.Le.{part, length-splice}
 use Rattle.marks.specs.Marks.{WORD-BYTES, wordsFor}
 use Rattle.object.specs.Format.{headerOf}
-use Rattle.layout.specs.Layout.{undefStart, startsTo}
+use Rattle.layout.specs.Layout.{undefStart}
+use Rattle.homes.specs.Home.{sectionHome}
 use Rattle.image.specs.Laid.{laidImage}
 use Rattle.image.specs.LaidLaws.{length-laid}
 use Rattle.limits.specs.Records.{SECTION-BYTES, SYMBOL-BYTES, EXTERN-BYTES, FIXUP-BYTES, SKIP-BYTES}
@@ -130,7 +131,7 @@ module _ (f : List ℕ) (c : Counts) (few : Within f c) where
   at = demand-3 f c (few .accepted) PROGRAM-BASE PROGRAM-BASE base-good base-good [] .one
 
   laid-long : (i : List ℕ) → length (laidImage f (headerOf f) PROGRAM-BASE (slotsOf f) i) ≡ length i
-  laid-long i = length-laid f (headerOf f) (startsTo f (headerOf f) (headerOf f .sections)) (pagesOf f) PROGRAM-BASE (undefStart f (headerOf f)) (slotsOf f) i
+  laid-long i = length-laid f (headerOf f) (sectionHome f (headerOf f)) (pagesOf f) PROGRAM-BASE (undefStart f (headerOf f)) (slotsOf f) i
 
   -- one call that asks for all fixups is not refused, and applies them all
   count-low : fixCount (fixTableOf f PROGRAM-BASE) ≤ 18446744073709551615

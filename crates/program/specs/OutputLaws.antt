@@ -1,15 +1,15 @@
 -- The lines in the rules' own words, and where each stands: of a loaded section, a listed symbol, an extern name, a fixup, a skip. For every file whose lines are printed.
 use mathlib.Core.Path.{_≡_, refl, sym, ap, _∙_}
-use mathlib.Core.Bool.{Bool, true, false}
+use mathlib.Core.Bool.{true, false}
 use mathlib.Core.List.{List, [], _∷_, _++_, append-nil}
-use Prim.Native.Nat.{ℕ, suc, _+_, _*_, _%_, _^_, _<_}
+use Prim.Native.Nat.{ℕ, suc, _+_, _%_, _^_, _<_}
 use native.Mathlib.Omega.{arith}
 use borrow.Author.Tests.{ne-eqb}
 use lib.Dec.{eqb}
 use lib.ListN.{length, getD, drop}
 use lib.Seq.{getD-append-add}
 use Rattle.util.specs.Pick.{pick}
-use Rattle.util.specs.Prefix.{countTo, listTo, length-list}
+use Rattle.util.specs.Prefix.{countTo, listTo, length-list, count-below}
 use Rattle.le.specs.Le.{splice, part, splice-front}
 use Rattle.kinds.specs.declared.SymbolKind.{SymbolKind}
 use Rattle.kinds.specs.declared.SymbolKind.the-variants.{Unknown, Text, Data, Section, File, Label}
@@ -20,11 +20,11 @@ use Rattle.object.specs.Section.{loaded, relocationCount, fileStart, fileEnd, r
 use Rattle.object.specs.Symbol.{kind}
 use Rattle.names.specs.declared.Name.{Name}
 use Rattle.names.specs.Name.{sectionName, symbolName, nameStart, nameLength}
-use Rattle.layout.specs.Layout.{recordOf, startsTo, undefStart}
-use Rattle.homes.specs.Home.{sectionHome, homeRecords}
+use Rattle.layout.specs.Layout.{startAt, recordOf, undefStart}
+use Rattle.homes.specs.Home.{sectionHome, homeRecord}
+use Rattle.homes.specs.HomeLaws.{loaded-start}
 use Rattle.homes.specs.Listed.{listed, listedOffset}
 use Rattle.externs.specs.Externs.{externs}
-use Rattle.words.specs.Picked.{count-below}
 use Rattle.words.specs.Words.{wordOf}
 use Rattle.tables.specs.Sections.{sectionWords}
 use Rattle.tables.specs.Externs.{externWords}
@@ -83,9 +83,6 @@ module _ (f : List ℕ) (c : Counts) (is : verdictOf f ≡ Lines c) where
   few : Within f c
   few = within f c is
 
-  abbrev starts : List ℕ
-  starts = startsTo f h (h .sections)
-
   sections-are : c .sections ≡ countTo (loaded f h) (h .sections) + 1
   unfolding countsBy
   sections-are = ap (λ (k : Counts). k .sections) (sym (counts-are f c (few .accepted)))
@@ -108,15 +105,15 @@ module _ (f : List ℕ) (c : Counts) (is : verdictOf f ≡ Lines c) where
   section-at k q = rw is (at-row (sectionLineAt f (sectionsOf f PROGRAM-BASE)) (fromSymbols f c (symbolsOf f PROGRAM-BASE) (externsOf f PROGRAM-BASE) (fixTableOf f PROGRAM-BASE) (skipTableOf f)) (c .sections) k q)
 
   section-word : (i : ℕ) → i < h .sections → loaded f h i ≡ true → (w : ℕ) → w < SECTION-WORDS
-      → wordOf SECTION-WORDS (sectionsOf f PROGRAM-BASE) (recordOf f h i) w ≡ low (getD (sectionWords f h PROGRAM-BASE starts i) w 0)
+      → wordOf SECTION-WORDS (sectionsOf f PROGRAM-BASE) (recordOf f h i) w ≡ low (getD (sectionWords f h PROGRAM-BASE (sectionHome f h) i) w 0)
   section-word i n t w q =
       rw (splice-self (sectionsOf f PROGRAM-BASE)) at
-      (section-record f h PROGRAM-BASE starts (undefStart f h) (sectionsOf f PROGRAM-BASE)
-      (let z = length-sections f h PROGRAM-BASE starts (undefStart f h) in omega arith) w q i n t)
+      (section-record f h PROGRAM-BASE (sectionHome f h) (undefStart f h) (sectionsOf f PROGRAM-BASE)
+      (let z = length-sections f h PROGRAM-BASE (sectionHome f h) (undefStart f h) in omega arith) w q i n t)
 
   pub section-said : (i : ℕ) → i < h .sections → loaded f h i ≡ true
       → lineOf f (suc (recordOf f h i))
-      ≡ sectionLine (low (PROGRAM-BASE + getD starts i 0)) (low (PROGRAM-BASE + getD starts i 0 + rangeLength f h i)) (low (fileStart f h i)) (low (fileEnd f h i)) (low (permissions f h i)) (nameAt f (sectionName f h i))
+      ≡ sectionLine (low (PROGRAM-BASE + startAt f h i)) (low (PROGRAM-BASE + startAt f h i + rangeLength f h i)) (low (fileStart f h i)) (low (fileEnd f h i)) (low (permissions f h i)) (nameAt f (sectionName f h i))
   unfolding sectionLineAt sectionTitle sectionWords pick
   section-said i n t =
       let w = section-word i n t in
@@ -126,7 +123,7 @@ module _ (f : List ℕ) (c : Counts) (is : verdictOf f ≡ Lines c) where
       let y = file-sections in
       let z : eqb (low (i + 1)) 0 ≡ false = ne-eqb (low (i + 1)) 0 (λ e. omega arith) in
       section-at (recordOf f h i) (omega arith)
-      ∙ rw (w 0 (omega arith), w 1 (omega arith), w 2 (omega arith), w 3 (omega arith), w 4 (omega arith), w 5 (omega arith), w 6 (omega arith), w 7 (omega arith), z)
+      ∙ rw (w 0 (omega arith), w 1 (omega arith), w 2 (omega arith), w 3 (omega arith), w 4 (omega arith), w 5 (omega arith), w 6 (omega arith), w 7 (omega arith), z, loaded-start f h i n t)
 
   -- ---- a listed symbol, behind the sections, by its place among the listed ones
   symbol-at : (k : ℕ) → k < c .symbols → lineOf f (suc (c .sections + k)) ≡ symbolLineAt f (symbolsOf f PROGRAM-BASE) k
@@ -137,11 +134,11 @@ module _ (f : List ℕ) (c : Counts) (is : verdictOf f ≡ Lines c) where
       ∙ at-row (symbolLineAt f (symbolsOf f PROGRAM-BASE)) (fromExterns f c (externsOf f PROGRAM-BASE) (fixTableOf f PROGRAM-BASE) (skipTableOf f)) (c .symbols) k q)
 
   symbol-word : (j : ℕ) → j < h .symbols → listed f h (sectionHome f h) j ≡ true → (w : ℕ) → w < SYMBOL-WORDS
-      → wordOf SYMBOL-WORDS (symbolsOf f PROGRAM-BASE) (countTo (listed f h (sectionHome f h)) j) w ≡ low (getD (symbolWords f h PROGRAM-BASE (sectionHome f h) (homeRecords f h (h .sections)) j) w 0)
+      → wordOf SYMBOL-WORDS (symbolsOf f PROGRAM-BASE) (countTo (listed f h (sectionHome f h)) j) w ≡ low (getD (symbolWords f h PROGRAM-BASE (sectionHome f h) (homeRecord f h) j) w 0)
   symbol-word j n t w q =
       rw (splice-self (symbolsOf f PROGRAM-BASE)) at
-      (symbol-record f h PROGRAM-BASE (sectionHome f h) (homeRecords f h (h .sections)) (symbolsOf f PROGRAM-BASE)
-      (let z = length-symbols f h PROGRAM-BASE (sectionHome f h) (homeRecords f h (h .sections)) in omega arith) w q j n t)
+      (symbol-record f h PROGRAM-BASE (sectionHome f h) (homeRecord f h) (symbolsOf f PROGRAM-BASE)
+      (let z = length-symbols f h PROGRAM-BASE (sectionHome f h) (homeRecord f h) in omega arith) w q j n t)
 
   pub symbol-said : (j : ℕ) → j < h .symbols → listed f h (sectionHome f h) j ≡ true
       → lineOf f (suc (c .sections + countTo (listed f h (sectionHome f h)) j))

@@ -2,13 +2,13 @@
 use mathlib.Core.Path.{_≡_, refl, ap}
 use mathlib.Core.Bool.{Bool, true, false}
 use mathlib.Core.List.{List, [], _∷_}
-use Prim.Native.Nat.{ℕ, zero, suc, _+_, _≤_, min}
+use Prim.Native.Nat.{ℕ, suc, _+_, _≤_, min}
 use native.Mathlib.Omega.{arith}
 use lib.Dec.{leb}
 use lib.ListN.{length}
 use borrow.Author.Tests.{leb-true}
 use Rattle.util.specs.Pick.{pick, and-left, and-right}
-use Rattle.util.specs.Prefix.{sumTo, countTo}
+use Rattle.util.specs.Prefix.{sumTo, count-most}
 use Rattle.util.specs.Fold.{foldRecords, foldSections, foldAt, sections-walk}
 use Rattle.object.specs.declared.Header.{Header}
 use Rattle.object.specs.Format.{headerOf}
@@ -41,16 +41,6 @@ pub record Within (f : List ℕ) (c : Counts) : Type 0 where
   pub fixups : c .fixups ≤ MOST-RELOCATIONS
   pub skips : c .skips ≤ MOST-RELOCATIONS
   pub passed : c .passed ≤ MOST-RELOCATIONS
-
--- ---- no more listed than there are
-count-most : (p : ℕ → Bool) (n : ℕ) → countTo p n ≤ n
-unfolding countTo pick
-count-most p zero = omega arith
-count-most p (suc n) = by-test (p n) (count-most p n)
-  where
-    by-test : (b : Bool) → countTo p n ≤ n → countTo p n + pick b 1 0 ≤ suc n
-    by-test true h = omega arith
-    by-test false h = omega arith
 
 -- ---- no more extern names than relocations
 insert-one : (f : List ℕ) (h : Header) (j : ℕ) (xs : List ℕ) → length (insertName f h j xs) ≤ suc (length xs)

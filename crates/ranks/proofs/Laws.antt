@@ -5,7 +5,7 @@ use mathlib.Core.List.{List, [], _∷_, _++_}
 use Prim.Native.Nat.{ℕ, _+_, _≤_, _<_}
 use native.Mathlib.Omega.{arith}
 use native.Mathlib.Numerals.{add-one}
-use borrow.Author.Tests.{lt-ltb, le-ltb, eq-eqb, ne-eqb}
+use borrow.Author.Tests.{eq-eqb, ne-eqb}
 use lib.Dec.{ltb, leb}
 use lib.ListN.{length, getD, take, drop, set, length-set, drop-of-length-le}
 use lib.Seq.{drop-cons, take-all, take-suc-set}
@@ -13,47 +13,17 @@ use Rattle.util.specs.Pick.{pick}
 use Rattle.util.specs.Prefix.{listTo, length-list}
 use Rattle.limits.specs.Limits.{MAX-SECTIONS}
 use Rattle.object.specs.declared.Header.{Header}
-use Rattle.object.specs.Section.{loaded, fileStart}
+use Rattle.object.specs.Section.{loaded}
 use Rattle.names.specs.declared.Order.{Order}
 use Rattle.names.specs.declared.Order.the-variants.{Less, Equal, Greater}
 use Rattle.names.specs.Bytes.{compareBytes}
 use Rattle.names.specs.declared.Span.{Span}
-use Rattle.names.specs.Name.{sectionSpan, spanText}
-use Rattle.ranks.specs.declared.By.{By}
-use Rattle.ranks.specs.declared.By.the-variants.{Start, Name}
+use Rattle.names.specs.Name.{sectionSpan, spanText, sectionText}
 use Rattle.ranks.specs.RankLaws.{ranks-room}
-use Rattle.ranks.specs.Rank.{byKeys, tieBefore, precedes, ranked, sectionKey, lateness}
+use Rattle.ranks.specs.Rank.{byKeys, tieBefore, precedes, ranked, lateness}
 use Rattle.ranks.specs.Merge.{leftNext}
 
 -- ---- the order of two sections
-module _ (a b : ℕ) where
-  pub number-less : a < b → Less ≡ compareBytes (a ∷ []) (b ∷ [])
-  unfolding compareBytes pick
-  number-less h = rw (lt-ltb a b h)
-
-  pub number-greater : b < a → Greater ≡ compareBytes (a ∷ []) (b ∷ [])
-  unfolding compareBytes pick
-  number-greater h = rw (le-ltb a b (omega arith), lt-ltb b a h)
-
-  pub number-equal : b ≤ a → a ≤ b → Equal ≡ compareBytes (a ∷ []) (b ∷ [])
-  unfolding compareBytes pick
-  number-equal h k = rw (le-ltb a b h, le-ltb b a k)
-
-pub ruleset number-ways = (number-less, number-greater, number-equal)
-
-module _ (f : List ℕ) (h : Header) (by : By) (i j : ℕ) (r : Order) where
-  pub order-start : (a b : ℕ) → by ≡ Start → r ≡ compareBytes (a ∷ []) (b ∷ []) → a ≡ fileStart f h i → b ≡ fileStart f h j
-      → r ≡ compareBytes (sectionKey by f h i) (sectionKey by f h j)
-  unfolding sectionKey
-  order-start a b e p q s = rw (e, ← q, ← s) p
-
-  pub order-name : (a b : Span) → by ≡ Name → r ≡ compareBytes (spanText f a) (spanText f b) → a ≡ sectionSpan f h i → b ≡ sectionSpan f h j
-      → r ≡ compareBytes (sectionKey by f h i) (sectionKey by f h j)
-  unfolding sectionKey
-  order-name a b e p q s = rw (e, ← q, ← s) p
-
-pub ruleset order-ways = (order-start, order-name)
-
 module _ (f : List ℕ) (h : Header) (i : ℕ) (r : Bool) (is : r ≡ loaded f h i) where
   pub late-no : r ≡ true → 0 ≡ lateness f h i
   unfolding lateness pick
@@ -76,18 +46,21 @@ module _ (late : ℕ → ℕ) (i j a b : ℕ) (p : a ≡ late i) (q : b ≡ late
 
 pub ruleset tie-ways = (tie-same, tie-apart)
 
-module _ (key : ℕ → List ℕ) (late : ℕ → ℕ) (i j : ℕ) (o : Order) (is : o ≡ compareBytes (key i) (key j)) where
-  pub precedes-less : o ≡ Less → true ≡ precedes key late i j
-  unfolding precedes byKeys
-  precedes-less e = rw (← is, e)
+module _ (f : List ℕ) (h : Header) (i j : ℕ) (a b : Span) (o : Order) (p : a ≡ sectionSpan f h i) (q : b ≡ sectionSpan f h j) (by : o ≡ compareBytes (spanText f a) (spanText f b)) where
+  name-order : o ≡ compareBytes (sectionText f h i) (sectionText f h j)
+  name-order = rw (← p, ← q) by
 
-  pub precedes-equal : (r : Bool) → o ≡ Equal → r ≡ tieBefore late i j → r ≡ precedes key late i j
+  pub precedes-less : o ≡ Less → true ≡ precedes (sectionText f h) (lateness f h) i j
   unfolding precedes byKeys
-  precedes-equal r e q = rw (← is, e) q
+  precedes-less e = rw (← name-order, e)
 
-  pub precedes-greater : o ≡ Greater → false ≡ precedes key late i j
+  pub precedes-equal : (r : Bool) → o ≡ Equal → r ≡ tieBefore (lateness f h) i j → r ≡ precedes (sectionText f h) (lateness f h) i j
   unfolding precedes byKeys
-  precedes-greater e = rw (← is, e)
+  precedes-equal r e t = rw (← name-order, e) t
+
+  pub precedes-greater : o ≡ Greater → false ≡ precedes (sectionText f h) (lateness f h) i j
+  unfolding precedes byKeys
+  precedes-greater e = rw (← name-order, e)
 
 pub ruleset precedes-ways = (precedes-less, precedes-equal, precedes-greater)
 

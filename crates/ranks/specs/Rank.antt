@@ -1,5 +1,5 @@
--- The sections of a file in order of their file start or of their name. A search for a home or for a name (01, "Layout, slots and fixups") takes the first
--- loaded section that has it, so of equal ones the loaded stand first, and of those the lower number.
+-- The sections of a file in order of their names. A search for a name (01, "Layout, slots and fixups") takes the first loaded section that has it, so of
+-- equal ones the loaded stand first, and of those the lower number.
 use mathlib.Core.Path.{_≡_}
 use mathlib.Core.Bool.{Bool, true, false}
 use mathlib.Core.List.{List, [], _∷_}
@@ -9,13 +9,11 @@ use lib.ListN.{length, getD}
 use Rattle.util.specs.Pick.{pick}
 use Rattle.util.specs.Prefix.{listTo}
 use Rattle.object.specs.declared.Header.{Header}
-use Rattle.object.specs.Section.{loaded, fileStart}
+use Rattle.object.specs.Section.{loaded}
 use Rattle.names.specs.declared.Order.{Order}
 use Rattle.names.specs.declared.Order.the-variants.{Less, Equal, Greater}
 use Rattle.names.specs.Bytes.{compareBytes}
 use Rattle.names.specs.Name.{sectionText}
-use Rattle.ranks.specs.declared.By.{By}
-use Rattle.ranks.specs.declared.By.the-variants.{Start, Name}
 
 -- by the order of two keys, and of equal ones by `tie`
 unfoldable pub byKeys : Order → Bool → Bool
@@ -42,18 +40,13 @@ module _ (key : ℕ → List ℕ) (late : ℕ → ℕ) where
   ranked [] = []
   ranked (x ∷ xs) = rankIn x (ranked xs)
 
--- a section's key: its file start, or the bytes of its name
-unfoldable pub sectionKey : By → List ℕ → Header → ℕ → List ℕ
-sectionKey Start f h i = fileStart f h i ∷ []
-sectionKey Name f h i = sectionText f h i
-
 -- 0 for a loaded section, 1 for another
 unfoldable pub lateness : List ℕ → Header → ℕ → ℕ
 lateness f h i = pick (loaded f h i) 0 1
 
 -- all sections, by their numbers from 0, in that order
-abbrev pub sectionRanks : By → List ℕ → Header → List ℕ
-sectionRanks by f h = ranked (sectionKey by f h) (lateness f h) (listTo (λ (i : ℕ). i) (h .sections))
+abbrev pub sectionRanks : List ℕ → Header → List ℕ
+sectionRanks f h = ranked (sectionText f h) (lateness f h) (listTo (λ (i : ℕ). i) (h .sections))
 
 -- where x stands among the n of a list
 pub record RankOf (list : List ℕ) (n x : ℕ) : Type 0 where

@@ -17,9 +17,9 @@ use Rattle.object.specs.declared.Header.{Header}
 use Rattle.names.specs.declared.Order.{Order}
 use Rattle.names.specs.declared.Order.the-variants.{Less, Equal, Greater}
 use Rattle.names.specs.Bytes.{compareBytes}
+use Rattle.names.specs.Name.{sectionText}
 use Rattle.names.specs.OrderLaws.{compare-self, equal-same, less-greater, greater-less, less-less}
-use Rattle.ranks.specs.declared.By.{By}
-use Rattle.ranks.specs.Rank.{byKeys, tieBefore, precedes, rankIn, ranked, sectionKey, lateness, sectionRanks, RankOf, InOrder}
+use Rattle.ranks.specs.Rank.{byKeys, tieBefore, precedes, rankIn, ranked, lateness, sectionRanks, RankOf, InOrder}
 
 -- ---- ties: by `late`, then by number
 module _ (late : ℕ → ℕ) (x y : ℕ) where
@@ -286,5 +286,5 @@ pub ranks-room : (n : ℕ) (l : List ℕ) → n ≤ MAX-SECTIONS → length l �
 ranks-room n l h e = sym (ranks-long n l h e)
 
 -- and so are a file's sections
-pub sections-in-order : (by : By) (f : List ℕ) (h : Header) → InOrder (sectionKey by f h) (lateness f h) (h .sections) (sectionRanks by f h)
-sections-in-order by f h = ranked-in-order (sectionKey by f h) (lateness f h) (h .sections)
+pub sections-in-order : (f : List ℕ) (h : Header) → InOrder (sectionText f h) (lateness f h) (h .sections) (sectionRanks f h)
+sections-in-order f h = ranked-in-order (sectionText f h) (lateness f h) (h .sections)

@@ -11,10 +11,10 @@ use Rattle.util.specs.Pick.{yes-no, le-or-lt, not-both}
 use Rattle.names.specs.declared.Order.{Order}
 use Rattle.names.specs.declared.Order.the-variants.{Less, Equal, Greater}
 use Rattle.names.specs.Bytes.{compareBytes}
+use Rattle.names.specs.Name.{sectionText}
 use Rattle.names.specs.OrderLaws.{equal-same, same-equal, less-less}
 use Rattle.object.specs.declared.Header.{Header}
-use Rattle.ranks.specs.declared.By.{By}
-use Rattle.ranks.specs.Rank.{byKeys, tieBefore, precedes, sectionKey, lateness, sectionRanks, RankOf, InOrder}
+use Rattle.ranks.specs.Rank.{byKeys, tieBefore, precedes, lateness, sectionRanks, RankOf, InOrder}
 use Rattle.ranks.specs.RankLaws.{sections-in-order}
 
 -- a first key is lower
@@ -129,19 +129,19 @@ module _ (key : ℕ → List ℕ) (late : ℕ → ℕ) (n : ℕ) (list sought : 
         other inside (above-by (getD list p 0) m (compareBytes (key (getD list p 0)) (key m)) refl d r l)
 
 -- ---- the turns of a loop over a file's sections
-module _ (by : By) (f : List ℕ) (h : Header) (sought ranks : List ℕ) (is : ranks ≡ sectionRanks by f h) where
-  pub ranks-in-order : InOrder (sectionKey by f h) (lateness f h) (h .sections) ranks
-  ranks-in-order = rw is (sections-in-order by f h)
+module _ (f : List ℕ) (h : Header) (sought ranks : List ℕ) (is : ranks ≡ sectionRanks f h) where
+  pub ranks-in-order : InOrder (sectionText f h) (lateness f h) (h .sections) ranks
+  ranks-in-order = rw is (sections-in-order f h)
 
-  ranks-low : LowFirst (lowerThan (sectionKey by f h) sought) ranks
-  ranks-low = low-first (sectionKey by f h) (lateness f h) (h .sections) ranks sought ranks-in-order
+  ranks-low : LowFirst (lowerThan (sectionText f h) sought) ranks
+  ranks-low = low-first (sectionText f h) (lateness f h) (h .sections) ranks sought ranks-in-order
 
-  module _ (lo n : ℕ) (t : Bool) (x : Halved (lowerThan (sectionKey by f h) sought) ranks lo n) (more : 0 < n) (e : t ≡ lowerThan (sectionKey by f h) sought (getD ranks (lo + n / 2) 0)) where
-    pub from-right : t ≡ true → Halved (lowerThan (sectionKey by f h) sought) ranks (lo + n / 2 + 1) (n - n / 2 - 1)
-    from-right y = halved-right (lowerThan (sectionKey by f h) sought) ranks ranks-low lo n x more t e y
+  module _ (lo n : ℕ) (t : Bool) (x : Halved (lowerThan (sectionText f h) sought) ranks lo n) (more : 0 < n) (e : t ≡ lowerThan (sectionText f h) sought (getD ranks (lo + n / 2) 0)) where
+    pub from-right : t ≡ true → Halved (lowerThan (sectionText f h) sought) ranks (lo + n / 2 + 1) (n - n / 2 - 1)
+    from-right y = halved-right (lowerThan (sectionText f h) sought) ranks ranks-low lo n x more t e y
 
-    pub from-left : t ≡ false → Halved (lowerThan (sectionKey by f h) sought) ranks lo (n / 2)
-    from-left y = halved-left (lowerThan (sectionKey by f h) sought) ranks ranks-low lo n x more t e y
+    pub from-left : t ≡ false → Halved (lowerThan (sectionText f h) sought) ranks lo (n / 2)
+    from-left y = halved-left (lowerThan (sectionText f h) sought) ranks ranks-low lo n x more t e y
 
 pub from-end : (low : ℕ → Bool) (list : List ℕ) (lo n : ℕ) → Halved low list lo n → n ≤ 0 → Halved low list lo 0
 from-end low list lo n x k = let z : n ≡ 0 = omega arith in rw z at x

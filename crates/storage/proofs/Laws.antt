@@ -1,11 +1,10 @@
 -- The ways through the code. Assumes nothing.
-use mathlib.Core.Path.{_≡_, _∙_, subst}
+use mathlib.Core.Path.{_≡_}
 use mathlib.Core.List.{List}
-use Prim.Native.Nat.{ℕ, _≤_, _<_, _%_, _^_}
+use Prim.Native.Nat.{ℕ, _%_, _^_}
 use native.Mathlib.Omega.{arith}
-use lib.ListN.{length, replicate, length-replicate}
-use Rattle.limits.specs.Limits.{MAX-SECTIONS}
-use Rattle.le.specs.Le.{splice, part, filled}
+use lib.ListN.{length}
+use Rattle.le.specs.Le.{splice, part}
 use Rattle.arch.specs.Machine.{archOf, archBy}
 use Rattle.arch.specs.Address.{rva}
 use Rattle.arch.specs.declared.Arch.{Arch}
@@ -14,9 +13,9 @@ use Rattle.arch.specs.declared.Offset.{Offset}
 use Rattle.object.specs.declared.Header.{Header}
 use Rattle.object.specs.Format.{headerOf}
 use Rattle.object.specs.Section.{relocationCount}
-use Rattle.layout.specs.Layout.{startsTo, pagesTo, mappedPages, undefStart}
+use Rattle.layout.specs.Layout.{pagesTo, mappedPages, undefStart}
 use Rattle.layout.specs.LayoutLaws.{undef-fits}
-use Rattle.homes.specs.Home.{homeOf, homeRecord, homeRecords, homeIn}
+use Rattle.homes.specs.Home.{homeIn, recordIn}
 use Rattle.targets.specs.Table.{targetIn}
 use Rattle.fixups.specs.Outcome.{outcome}
 use Rattle.tables.specs.Sections.{sectionTable}
@@ -29,39 +28,26 @@ use Rattle.storage.specs.Storage.{storage, storedBy, stored, Known}
 use Rattle.storage.specs.Writing.{LayoutIs, NamesAre}
 
 -- ---- the parts that are written
-module _ (f : List ℕ) (h : Header) (base : ℕ) (starts : List ℕ) (undef pages n : ℕ) (s s′ i i′ m m′ : List ℕ) where
-  pub laid-is : s′ ≡ splice s 0 (sectionTable f h base starts undef) → i′ ≡ laid f h starts pages base undef n i → m′ ≡ splice m 0 (markBytes pages (wordsFor pages))
-      → LayoutIs f h base starts undef pages n s s′ i i′ m m′
+module _ (f : List ℕ) (h : Header) (base : ℕ) (home : ℕ → Offset) (undef pages n : ℕ) (s s′ i i′ m m′ : List ℕ) where
+  pub laid-is : s′ ≡ splice s 0 (sectionTable f h base home undef) → i′ ≡ laid f h home pages base undef n i → m′ ≡ splice m 0 (markBytes pages (wordsFor pages))
+      → LayoutIs f h base home undef pages n s s′ i i′ m m′
   laid-is x y z = record { sections = x; image = y; marks = z }
 
-module _ (f : List ℕ) (h : Header) (base : ℕ) (home : ℕ → Offset) (records : List ℕ) (undef n : ℕ) (slots y y′ e e′ : List ℕ) where
-  pub listed-is : y′ ≡ splice y 0 (symbolTable f h base home records) → e′ ≡ splice e 0 (externTable f h base undef slots n) → NamesAre f h base home records undef n slots y y′ e e′
+module _ (f : List ℕ) (h : Header) (base : ℕ) (home : ℕ → Offset) (row : ℕ → ℕ) (undef n : ℕ) (slots y y′ e e′ : List ℕ) where
+  pub listed-is : y′ ≡ splice y 0 (symbolTable f h base home row) → e′ ≡ splice e 0 (externTable f h base undef slots n) → NamesAre f h base home row undef n slots y y′ e e′
   listed-is p q = record { symbols = p; externs = q }
 
-module _ (f : List ℕ) (h : Header) (base : ℕ) (home : ℕ → Offset) (undef n : ℕ) (slots y y′ e e′ a w : List ℕ) where
-  pub names-are : (size : ℕ) → h .sections ≤ size → (h .sections ≤ length (replicate {A = ℕ} size 0) → a ≡ splice (replicate size 0) 0 (homeRecords f h (h .sections))) → w ≡ part a 0 (h .sections)
-      → NamesAre f h base home w undef n slots y y′ e e′ → NamesAre f h base home (homeRecords f h (h .sections)) undef n slots y y′ e e′
-  names-are size k p q x =
-      let room : h .sections ≤ length (replicate {A = ℕ} size 0) = rw (length-replicate {A = ℕ} size 0) k in
-      let g : w ≡ homeRecords f h (h .sections) = filled (λ i. homeRecord f h (homeOf f h i)) a w size (h .sections) (p room) k q in
-      subst (λ (l : List ℕ). NamesAre f h base home l undef n slots y y′ e e′) g x
+pub ruleset parts = (laid-is, listed-is)
 
-module _ (f : List ℕ) (h : Header) (base : ℕ) (home : ℕ → Offset) (records : List ℕ) (undef n : ℕ) (slots y y′ e e′ : List ℕ) where
-  pub names-past : MAX-SECTIONS < h .sections → h .sections ≤ MAX-SECTIONS → NamesAre f h base home records undef n slots y y′ e e′
-  names-past k l = absurd (omega arith)
-
-pub ruleset parts = (laid-is, listed-is, names-are, names-past)
-
-pub stored-is : (a : Arch) (f : List ℕ) (h : Header) (base : ℕ) (homes starts codes slots first names : List ℕ) (start : RVA) (undef pages m n : ℕ) (i i′ k k′ s s′ y y′ e e′ x x′ z z′ : List ℕ) → h ≡ headerOf f
-    → start ≡ rva (undefStart f h) → undef ≡ start .0 % 2 ^ 32 → pages ≡ pagesTo (start .0) % 2 ^ 32 → a ≡ archBy (archOf (h .machine)) → first ≡ part starts 0 (h .sections) → names ≡ part slots 0 m
-    → n ≡ length names % 2 ^ 32
-    → LayoutIs f h base first (start .0) pages n s s′ i i′ k k′ → (h .sections ≤ MAX-SECTIONS → NamesAre f h base (homeIn homes) (homeRecords f h (h .sections)) (start .0) n names y y′ e e′)
-    → BothWritten (fixTable base (outcome a f h (homeIn homes) (targetIn homes starts undef codes)) (relocationCount f h) (h .sections))
-    (skipTable (outcome a f h (homeIn homes) (targetIn homes starts undef codes)) (relocationCount f h) (h .sections)) x x′ z z′
-    → Known f (headerOf f) homes starts codes (part slots 0 m) → storage i′ k′ s′ y′ e′ x′ z′ ≡ stored f (headerOf f) base (storage i k s y e x z)
+pub stored-is : (a : Arch) (f : List ℕ) (h : Header) (base : ℕ) (homes codes slots names : List ℕ) (start : RVA) (undef pages m n : ℕ) (i i′ k k′ s s′ y y′ e e′ x x′ z z′ : List ℕ) → h ≡ headerOf f
+    → start ≡ rva (undefStart f h) → undef ≡ start .0 % 2 ^ 32 → pages ≡ pagesTo (start .0) % 2 ^ 32 → a ≡ archBy (archOf (h .machine)) → names ≡ part slots 0 m → n ≡ length names % 2 ^ 32
+    → LayoutIs f h base (homeIn homes) (start .0) pages n s s′ i i′ k k′ → NamesAre f h base (homeIn homes) (recordIn homes) (start .0) n names y y′ e e′
+    → BothWritten (fixTable base (outcome a f h (homeIn homes) (targetIn homes undef codes)) (relocationCount f h) (h .sections))
+    (skipTable (outcome a f h (homeIn homes) (targetIn homes undef codes)) (relocationCount f h) (h .sections)) x x′ z z′
+    → Known f (headerOf f) homes codes (part slots 0 m) → storage i′ k′ s′ y′ e′ x′ z′ ≡ stored f (headerOf f) base (storage i k s y e x z)
 unfolding storedBy
-stored-is a f h base homes starts codes slots first names start undef pages m n i i′ k k′ s s′ y y′ e e′ x x′ z z′ head begins last mapped machine cut named count l w b known =
-    let lim : Known f h homes starts codes names = rw (head, named) known in
+stored-is a f h base homes codes slots names start undef pages m n i i′ k k′ s s′ y y′ e e′ x x′ z z′ head begins last mapped machine named count l w b known =
+    let lim : Known f h homes codes names = rw (head, named) known in
     let fits = undef-fits f h (lim .pages) in
     let room = lim .pages in
     let few = lim .few in
@@ -69,6 +55,4 @@ stored-is a f h base homes starts codes slots first names start undef pages m n 
     let u : undef ≡ undefStart f h = omega arith in
     let p : pages ≡ mappedPages f h = omega arith in
     let c : n ≡ length names = omega arith in
-    let g : first ≡ startsTo f h (h .sections) = cut ∙ lim .begin in
-    let v = w (lim .sections) in
-    rw (← head, l .image, l .marks, l .sections, v .symbols, v .externs, b .fixes, b .skips, machine, p, begins, u, c, g, lim .names, lim .home, lim .target)
+    rw (← head, l .image, l .marks, l .sections, w .symbols, w .externs, b .fixes, b .skips, machine, p, begins, u, c, lim .names, lim .home, lim .row, lim .target)

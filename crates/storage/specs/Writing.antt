@@ -12,12 +12,12 @@ use Rattle.image.specs.Laid.{laid}
 use Rattle.marks.specs.Marks.{wordsFor, markBytes}
 
 -- section table, image and marks
-pub record LayoutIs (f : List ℕ) (h : Header) (base : ℕ) (starts : List ℕ) (undef pages n : ℕ) (s s′ i i′ m m′ : List ℕ) : Type 0 where
-  pub sections : s′ ≡ splice s 0 (sectionTable f h base starts undef)
-  pub image : i′ ≡ laid f h starts pages base undef n i
+pub record LayoutIs (f : List ℕ) (h : Header) (base : ℕ) (home : ℕ → Offset) (undef pages n : ℕ) (s s′ i i′ m m′ : List ℕ) : Type 0 where
+  pub sections : s′ ≡ splice s 0 (sectionTable f h base home undef)
+  pub image : i′ ≡ laid f h home pages base undef n i
   pub marks : m′ ≡ splice m 0 (markBytes pages (wordsFor pages))
 
 -- symbols and extern names
-pub record NamesAre (f : List ℕ) (h : Header) (base : ℕ) (home : ℕ → Offset) (records : List ℕ) (undef n : ℕ) (slots y y′ e e′ : List ℕ) : Type 0 where
-  pub symbols : y′ ≡ splice y 0 (symbolTable f h base home records)
+pub record NamesAre (f : List ℕ) (h : Header) (base : ℕ) (home : ℕ → Offset) (row : ℕ → ℕ) (undef n : ℕ) (slots y y′ e e′ : List ℕ) : Type 0 where
+  pub symbols : y′ ≡ splice y 0 (symbolTable f h base home row)
   pub externs : e′ ≡ splice e 0 (externTable f h base undef slots n)

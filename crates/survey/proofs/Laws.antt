@@ -6,7 +6,7 @@ use mathlib.Core.Logic.{⊎-elim}
 use Prim.Native.Nat.{ℕ, zero, suc, _+_, _-_, _≤_, _%_, _^_}
 use native.Mathlib.Omega.{arith}
 use lib.Dec.{eqb, leb}
-use lib.ListN.{length, length-replicate}
+use lib.ListN.{length}
 use borrow.Author.Tests.{not-true, not-false}
 use Rattle.limits.specs.Limits.{MAX-SECTIONS, FEW-SECTIONS, FEW-SYMBOLS, MAX-PAGES, MAX-EXTERNS}
 use Rattle.refusal.specs.Refusal.{PAGES, EXTERNS, TARGET, PLACE}
@@ -24,7 +24,7 @@ use Rattle.checks.specs.CheckLaws.{pages-are, pages-few}
 use Rattle.object.specs.declared.Header.{Header}
 use Rattle.object.specs.Format.{headerOf}
 use Rattle.object.specs.Section.{relocationCount}
-use Rattle.layout.specs.Layout.{undefStart, pagesTo, mappedPages, tableRecords, startsTo}
+use Rattle.layout.specs.Layout.{undefStart, pagesTo, mappedPages, tableRecords}
 use Rattle.homes.specs.Home.{homesTo, homeIn}
 use Rattle.homes.specs.Listed.{listedTotal}
 use Rattle.externs.specs.declared.Names.{Names}
@@ -43,8 +43,8 @@ use Rattle.survey.specs.declared.answer.Survey.{Survey}
 use Rattle.survey.specs.declared.answer.Survey.the-variants.{Accepted, Refused}
 use Rattle.survey.specs.Survey.{Check, check, firstFailed, earlyChecks, pageChecks, targetChecks, externChecks, tallyBy, countsBy, tally, checks, counts, answerBy, surveyOf}
 use Rattle.survey.specs.SurveyLaws.{Early, Ordered, failed-first, early, early-rest, with-pages, records-rest, says-refused, sections-fit, fits-is}
-use Rattle.survey.specs.Surveying.{behindPages, targetsAnswer, plannedBy, namesIn, answerIn, fewRecords, sectionRoom, homeWords, startWords, codeWords, Cleared}
-use Rattle.survey.specs.TableLaws.{few-cleared, many-cleared, sections-room, answer-whole}
+use Rattle.survey.specs.Surveying.{behindPages, targetsAnswer, plannedBy, namesIn, answerIn, fewRecords, homeWords, codeWords, Cleared}
+use Rattle.survey.specs.TableLaws.{few-cleared, many-cleared, answer-whole}
 
 -- ---- the counts
 abbrev pub countsOf : Header → Tally → ℕ → ℕ → ℕ → ℕ → ℕ → Counts
@@ -84,12 +84,12 @@ pub ruleset chain = (check-pass, check-fail, checks-end)
 
 -- ---- UNDEF and the pages in 32 bits
 -- of an image that is not too large both fit
-pub tally-fits : (f : List ℕ) (h : Header) (homes starts codes : List ℕ) (a : Arch) (offset pages : ℕ) (u : RVA) (r : Tally) → a ≡ archBy (archOf (h .machine))
+pub tally-fits : (f : List ℕ) (h : Header) (homes codes : List ℕ) (a : Arch) (offset pages : ℕ) (u : RVA) (r : Tally) → a ≡ archBy (archOf (h .machine))
     → offset ≡ u .0 % 2 ^ 32 → pages ≡ pagesTo (u .0) % 2 ^ 32
-    → r ≡ tallyOf pages (outcome a f h (homeIn homes) (targetIn homes starts offset codes)) (relocationCount f h) (h .sections)
+    → r ≡ tallyOf pages (outcome a f h (homeIn homes) (targetIn homes offset codes)) (relocationCount f h) (h .sections)
     → mappedPages f h ≤ MAX-PAGES → u ≡ rva (undefStart f h)
-    → r ≡ tallyBy f h (homeIn homes) (targetIn homes starts (undefStart f h) codes)
-tally-fits f h homes starts codes a offset pages u r e q p d k g =
+    → r ≡ tallyBy f h (homeIn homes) (targetIn homes (undefStart f h) codes)
+tally-fits f h homes codes a offset pages u r e q p d k g =
     let z : u .0 ≡ undefStart f h = rw g in
     let x : offset ≡ undefStart f h = omega arith in
     let y : pages ≡ mappedPages f h = omega arith in
@@ -148,35 +148,32 @@ names-fit ys n e =
     ⊎-elim (λ t. record { few = t; all = let z : Count n ≡ Count (length ys) = rw t at e in cc })
     (λ t. absurd (let z : Count n ≡ TooMany = rw t at e in let w : _≡_ {A = ℕ} 0 1 = cc in omega arith)) (yes-no (leb (length ys) MAX-EXTERNS))
 
-module _ (f : List ℕ) (h : Header) (homes starts codes : List ℕ) (r : Names) (is : r ≡ namesOf (namesIn f h homes starts codes)) where
-  pub externs-over : r ≡ TooMany → Refused EXTERNS ≡ answerIn f h homes starts codes
+module _ (f : List ℕ) (h : Header) (homes codes : List ℕ) (r : Names) (is : r ≡ namesOf (namesIn f h codes)) where
+  pub externs-over : r ≡ TooMany → Refused EXTERNS ≡ answerIn f h homes codes
   unfolding answerBy firstFailed pick
-  externs-over e = rw (names-over (namesIn f h homes starts codes) (sym e ∙ is))
+  externs-over e = rw (names-over (namesIn f h codes) (sym e ∙ is))
 
-  pub externs-fit : (n : ℕ) (codes′ : List ℕ) (u : RVA) (x : Survey) → r ≡ Count n → CodesAfter f h codes (namesIn f h homes starts codes) codes′
+  pub externs-fit : (n : ℕ) (codes′ : List ℕ) (u : RVA) (x : Survey) → r ≡ Count n → CodesAfter f h codes (namesIn f h codes) codes′
       → mappedPages f h ≤ MAX-PAGES → u ≡ rva (undefStart f h)
-      → (mappedPages f h ≤ MAX-PAGES → u ≡ rva (undefStart f h) → x ≡ targetsAnswer f h (homeIn homes) (targetIn homes starts (undefStart f h) codes′) n)
-      → x ≡ answerIn f h homes starts codes
+      → (mappedPages f h ≤ MAX-PAGES → u ≡ rva (undefStart f h) → x ≡ targetsAnswer f h (homeIn homes) (targetIn homes (undefStart f h) codes′) n)
+      → x ≡ answerIn f h homes codes
   unfolding firstFailed pick
   externs-fit n codes′ u x e q room start d =
-      let c = names-fit (namesIn f h homes starts codes) n (sym e ∙ is) in
-      let g : codes′ ≡ slotted f h (namesIn f h homes starts codes) codes = q .few (c .few) in
+      let c = names-fit (namesIn f h codes) n (sym e ∙ is) in
+      let g : codes′ ≡ slotted f h (namesIn f h codes) codes = q .few (c .few) in
       rw (c .few) (rw (g, c .all) at (d room start))
 
 pub ruleset extern-ways = (externs-over, externs-fit)
 
 -- ---- the arrays
-module _ (f : List ℕ) (h : Header) (homes₀ starts₀ codes₀ homes starts codes : List ℕ) (few : h .sections ≤ MAX-SECTIONS) (zeros : Cleared h homes₀ starts₀ codes₀) where
-  pub records-by : (b : Bool) (u : RVA) (x : Survey) → (h .sections ≤ length homes₀ → homes ≡ splice homes₀ 0 (homesTo f h (h .sections)))
-      → starts ≡ splice starts₀ 0 (startsTo f h (h .sections)) → (h .sections ≤ MAX-SECTIONS → codes ≡ splice codes₀ 0 (codesTo f h (h .symbols)))
-      → b ≡ leb (pagesTo (u .0)) MAX-PAGES → b ≡ true → u ≡ rva (undefStart f h) → x ≡ answerIn f h homes starts codes
-      → x ≡ behindPages f h (answerIn f h (homeWords f h) (startWords f h) (codeWords f h))
-  records-by b u x e q c p t start d =
-      let room : h .sections ≤ length homes₀ = rw (zeros .no-homes, length-replicate {A = ℕ} (sectionRoom h) 0) (sections-room h few) in
-      let a : homes ≡ homeWords f h = rw (zeros .no-homes) at (e room) in
-      let s : starts ≡ startWords f h = rw (zeros .no-starts) at q in
+module _ (f : List ℕ) (h : Header) (homes₀ codes₀ homes codes : List ℕ) (few : h .sections ≤ MAX-SECTIONS) (zeros : Cleared h homes₀ codes₀) where
+  pub records-by : (b : Bool) (u : RVA) (x : Survey) → homes ≡ splice homes₀ 0 (homesTo f h (h .sections)) → (h .sections ≤ MAX-SECTIONS → codes ≡ splice codes₀ 0 (codesTo f h (h .symbols)))
+      → b ≡ leb (pagesTo (u .0)) MAX-PAGES → b ≡ true → u ≡ rva (undefStart f h) → x ≡ answerIn f h homes codes
+      → x ≡ behindPages f h (answerIn f h (homeWords f h) (codeWords f h))
+  records-by b u x e c p t start d =
+      let a : homes ≡ homeWords f h = rw (zeros .no-homes) at e in
       let k : codes ≡ codeWords f h = rw (zeros .no-codes) at (c few) in
-      behind-yes f h b u p x (answerIn f h (homeWords f h) (startWords f h) (codeWords f h)) t start (rw (a, s, k) at d)
+      behind-yes f h b u p x (answerIn f h (homeWords f h) (codeWords f h)) t start (rw (a, k) at d)
 
 pub ruleset section-ways = (records-by, behind-no, pages-few)
 
@@ -202,10 +199,10 @@ module _ (f : List ℕ) (h : Header) (code : ℕ) (is : code ≡ firstFailed (ea
   unfolding firstFailed pick
   pages-apply o t = early-rest f h (pageChecks f h ++ late) o ∙ rw t
 
-  ordered-answer : Ordered f h → h ≡ headerOf f → answerIn f h (homeWords f h) (startWords f h) (codeWords f h) ≡ answerBy (firstFailed (checks f h)) (counts f h)
+  ordered-answer : Ordered f h → h ≡ headerOf f → answerIn f h (homeWords f h) (codeWords f h) ≡ answerBy (firstFailed (checks f h)) (counts f h)
   ordered-answer o q = answer-whole f h (fits-is f h q o) (o .numbers) ∙ ap (λ (k : ℕ). answerBy k (counts f h)) (sym (records-rest f h late o))
 
-  pages-answer : code ≡ 0 → h ≡ headerOf f → behindPages f h (answerIn f h (homeWords f h) (startWords f h) (codeWords f h)) ≡ answerBy (firstFailed (checks f h)) (counts f h)
+  pages-answer : code ≡ 0 → h ≡ headerOf f → behindPages f h (answerIn f h (homeWords f h) (codeWords f h)) ≡ answerBy (firstFailed (checks f h)) (counts f h)
   pages-answer z q =
       let o = early f h [] (sym is ∙ z) in
       behind-is f h _ _ (λ t. ordered-answer (with-pages f h o t) q) (λ t. refused-by (PAGES - 1) (pages-apply o t))
@@ -214,7 +211,7 @@ module _ (f : List ℕ) (h : Header) (code : ℕ) (is : code ≡ firstFailed (ea
   pub few-records : code ≡ 0 → h .sections ≤ MAX-SECTIONS
   few-records z = sections-fit f h (early f h [] (sym is ∙ z) .sectionTable)
 
-  pub survey-yes : (x : Survey) → h ≡ headerOf f → code ≡ 0 → x ≡ behindPages f h (answerIn f h (homeWords f h) (startWords f h) (codeWords f h)) → x ≡ surveyOf f
+  pub survey-yes : (x : Survey) → h ≡ headerOf f → code ≡ 0 → x ≡ behindPages f h (answerIn f h (homeWords f h) (codeWords f h)) → x ≡ surveyOf f
   survey-yes x q z d = rw (← q) (d ∙ pages-answer z q)
 
   early-refused : (k : ℕ) → k ≡ firstFailed (earlyChecks f h) → (k ≡ 0 → ⊥) → Refused k ≡ answerBy (firstFailed (checks f h)) (counts f h)

@@ -1,11 +1,11 @@
 -- What acceptance gives: of every file that survey accepts, as the small object is (`demands: Table`).
-use mathlib.Core.Path.{_≡_, refl, _∙_}
-use mathlib.Core.Bool.{Bool, true, false, not}
+use mathlib.Core.Path.{_≡_, refl}
+use mathlib.Core.Bool.{true, false, not}
 use mathlib.Core.List.{List, _++_}
 use mathlib.Core.Logic.{_⊎_, inl, inr, ⊎-elim}
 use Prim.Native.Nat.{ℕ, _+_, _*_, _/_, _≤_, _<_, _^_}
 use native.Mathlib.Omega.{arith}
-use lib.Dec.{eqb, ltb}
+use lib.Dec.{ltb}
 use lib.ListN.{length, getD}
 use borrow.Author.Tests.{leb-true, not-false, ltb-true, lt-leb, eqb-true}
 use Rattle.util.specs.Pick.{pick, and-left, and-right}
@@ -17,7 +17,7 @@ use Rattle.object.specs.Relocation.{relocationSymbol, relocationType}
 use Rattle.names.specs.Name.{symbolText}
 use Rattle.layout.specs.Layout.{undefStart, mappedPages}
 use Rattle.homes.specs.Home.{sectionHome}
-use Rattle.homes.specs.HomeLaws.{loaded-starts, section-most}
+use Rattle.homes.specs.HomeLaws.{loaded-home, section-most}
 use Rattle.limits.specs.Limits.{MAX-PAGES, MAX-EXTERNS, SLOT-SIZE}
 use Rattle.arch.specs.Address.{rva}
 use Rattle.arch.specs.Page.{PAGE-SIZE}
@@ -111,7 +111,7 @@ module _ (f : List ℕ) (c : Counts) (accepted : surveyOf f ≡ Accepted c) wher
   -- a loaded section has a home, so none of its relocations is passed
   pub loaded-not-passed : (i k : ℕ) → i < header .sections → loaded f header i ≡ true → isPassed (o i k) ≡ false
   loaded-not-passed i k a t =
-      homed-not-passed _ f header (sectionHome f header) (targets f header) i k _ (loaded-starts f header i a t)
+      homed-not-passed _ f header (sectionHome f header) (targets f header) i k _ (loaded-home f header i a t)
 
   -- so each is a fixup of the fix list
   pub record IsFixed (i k : ℕ) : Type 0 where

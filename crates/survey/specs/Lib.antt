@@ -3,3 +3,4 @@ pub mod Surveying
 pub mod SurveyLaws
 pub mod TableLaws
 pub mod Acceptance
+pub mod Unloaded

@@ -9,7 +9,7 @@ use Rattle.util.specs.Pick.{pick}
 use Rattle.le.specs.Le.{splice}
 use Rattle.arch.specs.declared.Offset.{Offset}
 use Rattle.object.specs.declared.Header.{Header}
-use Rattle.layout.specs.Layout.{undefStart, mappedPages, startsTo}
+use Rattle.layout.specs.Layout.{undefStart, mappedPages}
 use Rattle.homes.specs.Home.{homesTo, homeIn}
 use Rattle.refusal.specs.Refusal.{PAGES}
 use Rattle.limits.specs.Limits.{MAX-SECTIONS, MAX-SYMBOLS, FEW-SECTIONS, FEW-SYMBOLS, MAX-PAGES}
@@ -48,20 +48,20 @@ module _ (f : List ℕ) (h : Header) (home : ℕ → Offset) (target : ℕ → T
   externsAnswer = answerBy (firstFailed (externChecks n ++ targetChecks (tallyBy f h home target))) (countsBy f h home n (tallyBy f h home target))
 
 -- ---- by the words that are kept of the sections and of the symbols
-module _ (f : List ℕ) (h : Header) (homes starts codes : List ℕ) where
+module _ (f : List ℕ) (h : Header) where
   -- the extern names, by the codes
-  abbrev pub namesIn : List ℕ
-  namesIn = externsBy f h (putsIn codes)
+  abbrev pub namesIn : List ℕ → List ℕ
+  namesIn codes = externsBy f h (putsIn codes)
 
   -- the answer from 9 on, by all of them
-  abbrev pub answerIn : Survey
-  answerIn = externsAnswer f h (homeIn homes) (targetIn homes starts (undefStart f h) (slotted f h namesIn codes)) (length namesIn)
+  abbrev pub answerIn : List ℕ → List ℕ → Survey
+  answerIn homes codes = externsAnswer f h (homeIn homes) (targetIn homes (undefStart f h) (slotted f h (namesIn codes) codes)) (length (namesIn codes))
 
 -- small arrays hold what is kept of the records
 unfoldable pub fewRecords : Header → Bool
 fewRecords h = leb (h .sections) FEW-SECTIONS && leb (h .symbols) FEW-SYMBOLS
 
--- the room of the arrays for homes and starts of sections,
+-- the room of the array for the sections' homes,
 unfoldable pub sectionRoom : Header → ℕ
 sectionRoom h = pick (fewRecords h) FEW-SECTIONS MAX-SECTIONS
 
@@ -70,20 +70,15 @@ unfoldable pub codeRoom : Header → ℕ
 codeRoom h = pick (fewRecords h) FEW-SYMBOLS MAX-SYMBOLS
 
 -- arrays of zeros with that room
-pub record Cleared (h : Header) (homes starts codes : List ℕ) : Type 0 where
+pub record Cleared (h : Header) (homes codes : List ℕ) : Type 0 where
   pub no-homes : homes ≡ replicate (sectionRoom h) 0
-  pub no-starts : starts ≡ replicate (sectionRoom h) 0
   pub no-codes : codes ≡ replicate (codeRoom h) 0
 
 -- ---- those words, filled once
 module _ (f : List ℕ) (h : Header) where
-  -- where the sections' homes start
+  -- the sections' homes
   abbrev pub homeWords : List ℕ
   homeWords = splice (replicate (sectionRoom h) 0) 0 (homesTo f h (h .sections))
-
-  -- where the sections start
-  abbrev pub startWords : List ℕ
-  startWords = splice (replicate (sectionRoom h) 0) 0 (startsTo f h (h .sections))
 
   -- what the symbols come to
   abbrev pub codeWords : List ℕ

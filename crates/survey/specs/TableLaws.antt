@@ -3,15 +3,15 @@ use mathlib.Core.Path.{_≡_, refl, sym, ap, _∙_, fun-ext}
 use mathlib.Core.Bool.{true, false, not, _&&_, _||_}
 use mathlib.Core.List.{List}
 use mathlib.Core.Logic.{⊎-elim}
-use Prim.Native.Nat.{ℕ, _%_, _^_, _≤_, _<_}
+use Prim.Native.Nat.{ℕ, _≤_, _<_}
 use native.Mathlib.Omega.{arith}
 use lib.ListN.{length, getD, replicate, length-replicate, getD-replicate, List·getD-eq-default}
 use lib.Dec.{leb}
 use borrow.Author.Tests.{leb-true, lt-leb}
 use Rattle.limits.specs.Limits.{MAX-SECTIONS, MAX-SYMBOLS, FEW-SECTIONS, FEW-SYMBOLS, MAX-EXTERNS}
 use Rattle.util.specs.Pick.{pick, yes-no, le-or-lt, and-left, and-right}
-use Rattle.util.specs.Prefix.{length-list, list-at, all-at}
-use Rattle.le.specs.Le.{splice, splice-above, part, filled, front-at}
+use Rattle.util.specs.Prefix.{length-list, all-at}
+use Rattle.le.specs.Le.{splice, splice-above, front-at}
 use Rattle.arch.specs.declared.Offset.{Offset}
 use Rattle.object.specs.declared.Header.{Header}
 use Rattle.object.specs.Symbol.{primary, symbolPlace, kind, okAt}
@@ -19,22 +19,20 @@ use Rattle.kinds.specs.declared.SymbolKind.{SymbolKind}
 use Rattle.kinds.specs.declared.SymbolKind.the-variants as kinds
 use Rattle.kinds.specs.declared.Place.{Place}
 use Rattle.kinds.specs.declared.Place.the-variants.{In, Undefined, Common, Absolute, Nowhere, Other}
-use Rattle.layout.specs.Layout.{startAt, undefStart, startsTo}
-use Rattle.layout.specs.LayoutLaws.{starts-fit}
-use Rattle.homes.specs.Home.{homeWord, homeStart, homeOf, homesTo, homeIn, sectionHome}
-use Rattle.homes.specs.HomeLaws.{homes-kept}
+use Rattle.layout.specs.Layout.{undefStart}
+use Rattle.homes.specs.Home.{sectionHome, homeRecord, homeWord, wordHome, wordRecord, homesTo, homeIn, recordIn}
+use Rattle.homes.specs.HomeLaws.{homes-kept, records-kept}
 use Rattle.checks.specs.Checks.{placeWithin, numberOk, numbersOk}
 use Rattle.rules.specs.declared.Rule.the-variants as rules
 use Rattle.rules.specs.Rule.{ruleOf}
 use Rattle.codes.specs.Code.{SPAN, symbolRule, putsIn}
 use Rattle.codes.specs.Puts.{CodesKept, filled-kept, puts-kept}
 use Rattle.externs.specs.Externs.{externs, externsBy}
-use Rattle.externs.specs.Slot.{slotOf}
 use Rattle.externs.specs.Slotted.{slotted}
-use Rattle.targets.specs.Target.{targetOf, targets}
-use Rattle.targets.specs.Table.{targetIn, Coded, target-kept}
+use Rattle.targets.specs.Target.{targets}
+use Rattle.targets.specs.Table.{codeTarget, targetIn, Coded, target-kept}
 use Rattle.survey.specs.Survey.{firstFailed, answerBy}
-use Rattle.survey.specs.Surveying.{Fits, externsAnswer, answerIn, fewRecords, sectionRoom, codeRoom, homeWords, startWords, codeWords, Cleared}
+use Rattle.survey.specs.Surveying.{Fits, externsAnswer, answerIn, fewRecords, sectionRoom, codeRoom, homeWords, codeWords, Cleared}
 
 zero-at : (size j : ℕ) → getD {A = ℕ} (replicate size 0) j 0 ≡ 0
 zero-at size j =
@@ -85,13 +83,13 @@ in-section kinds.File p n e = absurd (let w : _≡_ {A = ℕ} 0 1 = cc in omega 
 
 -- ---- the arrays' room, for few records and for many
 module _ (h : Header) where
-  pub few-cleared : fewRecords h ≡ true → Cleared h (replicate FEW-SECTIONS 0) (replicate FEW-SECTIONS 0) (replicate FEW-SYMBOLS 0)
+  pub few-cleared : fewRecords h ≡ true → Cleared h (replicate FEW-SECTIONS 0) (replicate FEW-SYMBOLS 0)
   unfolding sectionRoom codeRoom pick
-  few-cleared t = record { no-homes = rw t; no-starts = rw t; no-codes = rw t }
+  few-cleared t = record { no-homes = rw t; no-codes = rw t }
 
-  pub many-cleared : fewRecords h ≡ false → Cleared h (replicate MAX-SECTIONS 0) (replicate MAX-SECTIONS 0) (replicate MAX-SYMBOLS 0)
+  pub many-cleared : fewRecords h ≡ false → Cleared h (replicate MAX-SECTIONS 0) (replicate MAX-SYMBOLS 0)
   unfolding sectionRoom codeRoom pick
-  many-cleared t = record { no-homes = rw t; no-starts = rw t; no-codes = rw t }
+  many-cleared t = record { no-homes = rw t; no-codes = rw t }
 
   -- what the limits allow has room
   pub sections-room : h .sections ≤ MAX-SECTIONS → h .sections ≤ sectionRoom h
@@ -109,25 +107,19 @@ module _ (h : Header) where
       (yes-no (leb (h .sections) FEW-SECTIONS && leb (h .symbols) FEW-SYMBOLS))
 
 module _ (f : List ℕ) (h : Header) (fits : Fits f h) where
-  -- the sections' homes and starts, and the symbols' codes
+  word-whole : (j : ℕ) → getD (homeWords f h) j 0 ≡ getD (homesTo f h (h .sections)) j 0
+  word-whole j =
+      let l = length-list (homeWord f h) (h .sections) in
+      let s = sections-room h (fits .sections) in
+      padded (homesTo f h (h .sections)) (sectionRoom h) j (omega arith)
+
+  -- the sections' homes, and which records they are
   pub homes-whole : homeIn (homeWords f h) ≡ sectionHome f h
   homes-whole =
-      let l = length-list {A = ℕ} (λ k. homeWord (homeStart f h (homeOf f h k))) (h .sections) in
-      let s = sections-room h (fits .sections) in
-      fun-ext (λ j. rw (padded (homesTo f h (h .sections)) (sectionRoom h) j (omega arith))) ∙ homes-kept f h (fits .pages)
+      fun-ext (λ j. ap wordHome (word-whole j)) ∙ homes-kept f h (fits .pages)
 
-  pub starts-whole : (i : ℕ) → i < h .sections → getD (startWords f h) i 0 ≡ startAt f h i
-  starts-whole i k =
-      let l = length-list {A = ℕ} (λ j. startAt f h j % 2 ^ 32) (h .sections) in
-      let s = sections-room h (fits .sections) in
-      let b = starts-fit f h (fits .pages) i (omega arith) in
-      let m : startAt f h i % 2 ^ 32 ≡ startAt f h i = omega arith in
-      padded (startsTo f h (h .sections)) (sectionRoom h) i (omega arith) ∙ list-at (λ j. startAt f h j % 2 ^ 32) 0 (h .sections) i k ∙ m
-
-  pub starts-front : part (startWords f h) 0 (h .sections) ≡ startsTo f h (h .sections)
-  starts-front =
-      let s = sections-room h (fits .sections) in
-      filled (λ j. startAt f h j % 2 ^ 32) (startWords f h) (part (startWords f h) 0 (h .sections)) (sectionRoom h) (h .sections) refl s refl
+  pub records-whole : recordIn (homeWords f h) ≡ homeRecord f h
+  records-whole = fun-ext (λ j. ap wordRecord (word-whole j)) ∙ records-kept f h
 
   -- the kept codes are those of the records
   pub codes-whole : CodesKept f h (codeWords f h)
@@ -153,13 +145,13 @@ module _ (f : List ℕ) (h : Header) (fits : Fits f h) where
 
     -- and the targets too
     pub targets-whole : length (externs f h) ≤ MAX-EXTERNS
-        → targetIn (homeWords f h) (startWords f h) (undefStart f h) (slotted f h (externs f h) (codeWords f h)) ≡ targets f h
+        → targetIn (homeWords f h) (undefStart f h) (slotted f h (externs f h) (codeWords f h)) ≡ targets f h
     targets-whole few =
-        fun-ext (target-kept f h (homeIn (homeWords f h)) (startWords f h) (externs f h) (codeWords f h) coded codes-whole starts-whole (omega arith))
-        ∙ ap (λ (home : ℕ → Offset). targetOf f h home (undefStart f h) (slotOf f h (externs f h))) homes-whole
+        ap (λ (home : ℕ → Offset). λ (j : ℕ). codeTarget home (undefStart f h) (getD (slotted f h (externs f h) (codeWords f h)) j 0)) homes-whole
+        ∙ fun-ext (target-kept f h (externs f h) (codeWords f h) coded codes-whole (omega arith))
 
     -- the answer is the one by the rules
-    pub answer-whole : answerIn f h (homeWords f h) (startWords f h) (codeWords f h) ≡ externsAnswer f h (sectionHome f h) (targets f h) (length (externs f h))
+    pub answer-whole : answerIn f h (homeWords f h) (codeWords f h) ≡ externsAnswer f h (sectionHome f h) (targets f h) (length (externs f h))
     unfolding answerBy firstFailed pick
     answer-whole =
         rw names-whole

@@ -19,7 +19,7 @@ ghost use Rattle.targets.specs.Table.{targetIn};
 ghost use Rattle.bounds.specs.Bounds.{relocationTotal};
 ghost use Rattle.fixups.specs.Tallying.{AtMost};
 ghost use Rattle.survey.specs.Survey.{firstFailed, earlyChecks, targetChecks, tallyBy, countsBy, answerBy, surveyOf};
-ghost use Rattle.survey.specs.Surveying.{behindPages, targetsAnswer, plannedBy, answerIn, fewRecords, homeWords, startWords, codeWords, Cleared};
+ghost use Rattle.survey.specs.Surveying.{behindPages, targetsAnswer, plannedBy, answerIn, fewRecords, homeWords, codeWords, Cleared};
 
 // The first of refusals 1 to 7 that applies, or 0.
 pub fn records_code(f: &[u8], h: Header) -> u64
@@ -50,15 +50,15 @@ pub fn records_code(f: &[u8], h: Header) -> u64
 }
 
 // By UNDEF's start, which is found once for all that ask for it.
-fn tally_by(f: &[u8], h: Header, homes: &[u32], starts: &[u32], undef: RVA, codes: &[u16]) -> Tally
-    ensures { λ r. ⌜ (mappedPages (now (f .entry)) h ≤ MAX-PAGES → undef ≡ rva (undefStart (now (f .entry)) h) → r ≡ tallyBy (now (f .entry)) h (homeIn (now (homes .entry))) (targetIn (now (homes .entry)) (now (starts .entry)) (undefStart (now (f .entry)) h) (now (codes .entry)))) ⌝ }
+fn tally_by(f: &[u8], h: Header, homes: &[u32], undef: RVA, codes: &[u16]) -> Tally
+    ensures { λ r. ⌜ (mappedPages (now (f .entry)) h ≤ MAX-PAGES → undef ≡ rva (undefStart (now (f .entry)) h) → r ≡ tallyBy (now (f .entry)) h (homeIn (now (homes .entry))) (targetIn (now (homes .entry)) (undefStart (now (f .entry)) h) (now (codes .entry)))) ⌝ }
     ensures { λ r. ⌜ r .passed + r .skips + r .refused + r .fixups ≡ relocationTotal (now (f .entry)) h ⌝ }
     ensures { λ r. ⌜ AtMost r (2 ^ 48) ⌝ }
 {
     let offset = layout::offset_word(undef);
     let pages = layout::page_word(undef);
     let arch = Arch::by_machine(h.machine);
-    fixups::tally_of(arch, f, h, homes, starts, offset, codes, pages)
+    fixups::tally_of(arch, f, h, homes, offset, codes, pages)
 }
 
 // Each relocation comes to one of four outcomes, so that their numbers add up to all of them.
@@ -102,18 +102,10 @@ fn verdict(t: Tally, c: Counts) -> Survey
 }
 
 // With n extern names, whose slots are in the codes.
-fn survey_targets(
-    f: &[u8],
-    h: Header,
-    homes: &[u32],
-    starts: &[u32],
-    undef: RVA,
-    codes: &[u16],
-    n: usize,
-) -> Survey
-    ensures { λ r. ⌜ (mappedPages (now (f .entry)) h ≤ MAX-PAGES → undef ≡ rva (undefStart (now (f .entry)) h) → r ≡ targetsAnswer (now (f .entry)) h (homeIn (now (homes .entry))) (targetIn (now (homes .entry)) (now (starts .entry)) (undefStart (now (f .entry)) h) (now (codes .entry))) n) ⌝ }
+fn survey_targets(f: &[u8], h: Header, homes: &[u32], undef: RVA, codes: &[u16], n: usize) -> Survey
+    ensures { λ r. ⌜ (mappedPages (now (f .entry)) h ≤ MAX-PAGES → undef ≡ rva (undefStart (now (f .entry)) h) → r ≡ targetsAnswer (now (f .entry)) h (homeIn (now (homes .entry))) (targetIn (now (homes .entry)) (undefStart (now (f .entry)) h) (now (codes .entry))) n) ⌝ }
 {
-    let t = tally_by(f, h, homes, starts, undef, codes);
+    let t = tally_by(f, h, homes, undef, codes);
     verdict(t, counts_by(f, h, homes, undef, n, t))
 }
 
@@ -122,55 +114,40 @@ pub fn survey_planned(
     f: &[u8],
     h: Header,
     homes: &[u32],
-    starts: &[u32],
     undef: RVA,
     codes: &[u16],
     n: usize,
 ) -> Survey
-    ensures { λ r. ⌜ (undef ≡ rva (undefStart (now (f .entry)) h) → r ≡ plannedBy (now (f .entry)) h (homeIn (now (homes .entry))) (targetIn (now (homes .entry)) (now (starts .entry)) (undefStart (now (f .entry)) h) (now (codes .entry))) n) ⌝ }
+    ensures { λ r. ⌜ (undef ≡ rva (undefStart (now (f .entry)) h) → r ≡ plannedBy (now (f .entry)) h (homeIn (now (homes .entry))) (targetIn (now (homes .entry)) (undefStart (now (f .entry)) h) (now (codes .entry))) n) ⌝ }
 {
     if checks::pages_fit(undef) {
-        survey_targets(f, h, homes, starts, undef, codes, n)
+        survey_targets(f, h, homes, undef, codes, n)
     } else {
         Survey::Refused(refusal::PAGES)
     }
 }
 
 // Refusal 9, and what follows.
-fn survey_externs(
-    f: &[u8],
-    h: Header,
-    homes: &[u32],
-    starts: &[u32],
-    undef: RVA,
-    codes: &mut [u16],
-) -> Survey
+fn survey_externs(f: &[u8], h: Header, homes: &[u32], undef: RVA, codes: &mut [u16]) -> Survey
     requires { ⌜ (mappedPages (now f) h ≤ MAX-PAGES) × (undef ≡ rva (undefStart (now f) h)) ⌝ }
-    ensures { λ r. ⌜ r ≡ answerIn (now (f .entry)) h (now (homes .entry)) (now (starts .entry)) (now (codes .entry)) ⌝ }
+    ensures { λ r. ⌜ r ≡ answerIn (now (f .entry)) h (now (homes .entry)) (now (codes .entry)) ⌝ }
 {
     let mut slots = [0u32; limits::EXTERN_ROOM];
     match externs::collect(f, h, codes, &mut slots) {
         Names::TooMany => Survey::Refused(refusal::EXTERNS),
-        Names::Count(n) => survey_targets(f, h, homes, starts, undef, codes, n),
+        Names::Count(n) => survey_targets(f, h, homes, undef, codes, n),
     }
 }
 
-// Refusal 8, by what the sections' starts come to; and what follows. Each section's home and start, and what each symbol record comes to, is found once.
-fn survey_with(
-    f: &[u8],
-    h: Header,
-    homes: &mut [u32],
-    starts: &mut [u32],
-    codes: &mut [u16],
-) -> Survey
-    requires { ⌜ (h .sections ≤ MAX-SECTIONS) × Cleared h (now homes) (now starts) (now codes) ⌝ }
-    ensures { λ r. ⌜ r ≡ behindPages (now (f .entry)) h (answerIn (now (f .entry)) h (homeWords (now (f .entry)) h) (startWords (now (f .entry)) h) (codeWords (now (f .entry)) h)) ⌝ }
+// Refusal 8, by where the sections end; and what follows. Each section's home, and what each symbol record comes to, is found once.
+fn survey_with(f: &[u8], h: Header, homes: &mut [u32], codes: &mut [u16]) -> Survey
+    requires { ⌜ (h .sections ≤ MAX-SECTIONS) × Cleared h (now homes) (now codes) ⌝ }
+    ensures { λ r. ⌜ r ≡ behindPages (now (f .entry)) h (answerIn (now (f .entry)) h (homeWords (now (f .entry)) h) (codeWords (now (f .entry)) h)) ⌝ }
 {
-    let undef = layout::fill_starts(f, h, starts);
+    let undef = homes::fill_homes(f, h, homes);
     if checks::pages_fit(undef) {
-        home_search::fill_homes(f, h, homes);
         codes::fill_codes(f, h, codes);
-        survey_externs(f, h, homes, starts, undef, codes)
+        survey_externs(f, h, homes, undef, codes)
     } else {
         Survey::Refused(refusal::PAGES)
     }
@@ -189,29 +166,27 @@ pub fn few_records(h: Header) -> bool
 // Of few records in small arrays.
 fn survey_few(f: &[u8], h: Header) -> Survey
     requires { ⌜ (h .sections ≤ MAX-SECTIONS) × (fewRecords h ≡ true) ⌝ }
-    ensures { λ r. ⌜ r ≡ behindPages (now (f .entry)) h (answerIn (now (f .entry)) h (homeWords (now (f .entry)) h) (startWords (now (f .entry)) h) (codeWords (now (f .entry)) h)) ⌝ }
+    ensures { λ r. ⌜ r ≡ behindPages (now (f .entry)) h (answerIn (now (f .entry)) h (homeWords (now (f .entry)) h) (codeWords (now (f .entry)) h)) ⌝ }
 {
     let mut homes = [0u32; limits::FEW_SECTIONS];
-    let mut starts = [0u32; limits::FEW_SECTIONS];
     let mut codes = [0u16; limits::FEW_SYMBOLS];
-    survey_with(f, h, &mut homes, &mut starts, &mut codes)
+    survey_with(f, h, &mut homes, &mut codes)
 }
 
 // Of more in large ones.
 fn survey_many(f: &[u8], h: Header) -> Survey
     requires { ⌜ (h .sections ≤ MAX-SECTIONS) × (fewRecords h ≡ false) ⌝ }
-    ensures { λ r. ⌜ r ≡ behindPages (now (f .entry)) h (answerIn (now (f .entry)) h (homeWords (now (f .entry)) h) (startWords (now (f .entry)) h) (codeWords (now (f .entry)) h)) ⌝ }
+    ensures { λ r. ⌜ r ≡ behindPages (now (f .entry)) h (answerIn (now (f .entry)) h (homeWords (now (f .entry)) h) (codeWords (now (f .entry)) h)) ⌝ }
 {
     let mut homes = [0u32; limits::MAX_SECTIONS];
-    let mut starts = [0u32; limits::MAX_SECTIONS];
     let mut codes = [0u16; limits::MAX_SYMBOLS];
-    survey_with(f, h, &mut homes, &mut starts, &mut codes)
+    survey_with(f, h, &mut homes, &mut codes)
 }
 
 // What follows refusals 1 to 7.
 fn survey_records(f: &[u8], h: Header) -> Survey
     requires { ⌜ h .sections ≤ MAX-SECTIONS ⌝ }
-    ensures { λ r. ⌜ r ≡ behindPages (now (f .entry)) h (answerIn (now (f .entry)) h (homeWords (now (f .entry)) h) (startWords (now (f .entry)) h) (codeWords (now (f .entry)) h)) ⌝ }
+    ensures { λ r. ⌜ r ≡ behindPages (now (f .entry)) h (answerIn (now (f .entry)) h (homeWords (now (f .entry)) h) (codeWords (now (f .entry)) h)) ⌝ }
 {
     if few_records(h) {
         survey_few(f, h)

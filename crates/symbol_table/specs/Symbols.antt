@@ -1,8 +1,7 @@
 -- The symbol table (01, "Layout, slots and fixups"): the listed symbols in file order. `home` says where a section's home
--- starts, and `records` keeps its table record.
+-- starts, and `row` which record of the section table it is.
 use mathlib.Core.List.{List, [], _∷_}
 use Prim.Native.Nat.{ℕ, _+_}
-use lib.ListN.{getD}
 use Rattle.arch.specs.declared.Offset.{Offset}
 use Rattle.object.specs.declared.Header.{Header}
 use Rattle.object.specs.Symbol.{kind, symbolPlace}
@@ -12,16 +11,16 @@ use Rattle.homes.specs.Listed.{ofPlace, listed, listedOffset}
 use Rattle.words.specs.Picked.{picked}
 
 -- a record is six words: address, kind, name start, name length, symbol number, home. The home of a symbol is its section's record in the section table
-unfoldable pub symbolWords : List ℕ → Header → ℕ → (ℕ → Offset) → List ℕ → ℕ → List ℕ
-symbolWords f h base home records j =
+unfoldable pub symbolWords : List ℕ → Header → ℕ → (ℕ → Offset) → (ℕ → ℕ) → ℕ → List ℕ
+symbolWords f h base home row j =
     (base + listedOffset f h home j)
     ∷ kindNumber (kind f h j)
     ∷ nameStart (symbolName f h j)
     ∷ nameLength (symbolName f h j)
     ∷ j
-    ∷ ofPlace (λ i. getD records i 0) 0 (symbolPlace f h j)
+    ∷ ofPlace row 0 (symbolPlace f h j)
     ∷ []
 
 -- the table
-abbrev pub symbolTable : List ℕ → Header → ℕ → (ℕ → Offset) → List ℕ → List ℕ
-symbolTable f h base home records = picked (listed f h home) (symbolWords f h base home records) (h .symbols)
+abbrev pub symbolTable : List ℕ → Header → ℕ → (ℕ → Offset) → (ℕ → ℕ) → List ℕ
+symbolTable f h base home row = picked (listed f h home) (symbolWords f h base home row) (h .symbols)

@@ -8,7 +8,7 @@ ghost use Rattle.limits.specs.Records.{SYMBOL-BYTES};
 ghost use Rattle.le.specs.Le.{splice};
 ghost use Rattle.object.specs.Symbol.{symbolOf};
 ghost use Rattle.stops.specs.Stops.{stopsOf};
-ghost use Rattle.homes.specs.Home.{homeIn};
+ghost use Rattle.homes.specs.Home.{homeIn, recordIn};
 ghost use Rattle.words.specs.Words.{wordBytes};
 ghost use Rattle.symbol_table.specs.Symbols.{symbolWords, symbolTable};
 
@@ -18,7 +18,6 @@ fn put_symbol(
     h: Header,
     base: VA,
     homes: &[u32],
-    records: &[u32],
     stops: &[u32],
     s: Symbol,
     j: u32,
@@ -26,14 +25,14 @@ fn put_symbol(
     b: &mut [u8],
 )
     requires { ⌜ (now stops ≡ stopsOf (now f) h) × (s ≡ symbolOf (now f) h j) ⌝ }
-    ensures { λ _. ⌜ now (b .exit) ≡ splice (now (b .entry)) (SYMBOL-BYTES * n) (wordBytes (symbolWords (now (f .entry)) h (base .0) (homeIn (now (homes .entry))) (now (records .entry)) j)) ⌝ }
+    ensures { λ _. ⌜ now (b .exit) ≡ splice (now (b .entry)) (SYMBOL-BYTES * n) (wordBytes (symbolWords (now (f .entry)) h (base .0) (homeIn (now (homes .entry))) (recordIn (now (homes .entry))) j)) ⌝ }
 {
     let p = object::place_of(s);
     let offset = homes::listed_offset(homes, p, object::listed_of(s));
     let address = std::num::wrapping_add_u64(base.0, offset.0);
     let name = stops::symbol_name(f, h, stops, j);
     let kind = kinds::kind_number(object::kind_of(s));
-    let home = homes::record_of_place(records, p);
+    let home = homes::record_of_place(homes, p);
     let ws = [
         address,
         kind,
@@ -46,17 +45,9 @@ fn put_symbol(
 }
 
 // A record for each listed symbol, in file order.
-fn write_listed(
-    f: &[u8],
-    h: Header,
-    base: VA,
-    homes: &[u32],
-    records: &[u32],
-    stops: &[u32],
-    b: &mut [u8],
-)
+fn write_listed(f: &[u8], h: Header, base: VA, homes: &[u32], stops: &[u32], b: &mut [u8])
     requires { ⌜ now stops ≡ stopsOf (now f) h ⌝ }
-    ensures { λ _. ⌜ now (b .exit) ≡ splice (now (b .entry)) 0 (symbolTable (now (f .entry)) h (base .0) (homeIn (now (homes .entry))) (now (records .entry))) ⌝ }
+    ensures { λ _. ⌜ now (b .exit) ≡ splice (now (b .entry)) 0 (symbolTable (now (f .entry)) h (base .0) (homeIn (now (homes .entry))) (recordIn (now (homes .entry)))) ⌝ }
 {
     let m = h.symbols;
     let mut n: u32 = 0;
@@ -67,7 +58,7 @@ fn write_listed(
         let found = homes::is_listed(homes, left, s);
         left = object::left_by(left, s.auxiliaries);
         if found {
-            put_symbol(f, h, base, homes, records, stops, s, j, n, b);
+            put_symbol(f, h, base, homes, stops, s, j, n, b);
             n += 1;
             j += 1;
         } else {
@@ -77,10 +68,10 @@ fn write_listed(
 }
 
 // The table; long names are found by the noted stops.
-pub fn write_symbols(f: &[u8], h: Header, base: VA, homes: &[u32], records: &[u32], b: &mut [u8])
-    ensures { λ _. ⌜ now (b .exit) ≡ splice (now (b .entry)) 0 (symbolTable (now (f .entry)) h (base .0) (homeIn (now (homes .entry))) (now (records .entry))) ⌝ }
+pub fn write_symbols(f: &[u8], h: Header, base: VA, homes: &[u32], b: &mut [u8])
+    ensures { λ _. ⌜ now (b .exit) ≡ splice (now (b .entry)) 0 (symbolTable (now (f .entry)) h (base .0) (homeIn (now (homes .entry))) (recordIn (now (homes .entry)))) ⌝ }
 {
     let mut stops = [0u32; stops::BLOCKS];
     let n = stops::fill_stops(f, h, &mut stops);
-    write_listed(f, h, base, homes, records, le::words(&stops, n), b);
+    write_listed(f, h, base, homes, le::words(&stops, n), b);
 }

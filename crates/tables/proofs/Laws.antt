@@ -9,6 +9,10 @@ use lib.ListN.{getD, length}
 use Rattle.limits.specs.Limits.{SLOT-SIZE}
 use Rattle.limits.specs.Records.{SECTION-BYTES, EXTERN-BYTES}
 use Rattle.arch.specs.Page.{PAGE-SIZE}
+use Rattle.arch.specs.declared.RVA.{RVA}
+use Rattle.arch.specs.declared.Offset.{Offset}
+use Rattle.arch.specs.Address.{rva}
+use Rattle.homes.specs.Home.{startOf}
 use Rattle.le.specs.Le.{splice, splice-long}
 use Rattle.object.specs.declared.Header.{Header}
 use Rattle.object.specs.Section.{loaded, rangeLength, fileStart, fileEnd, permissions}
@@ -30,45 +34,46 @@ two-low a b ws x y p q =
     let e : y ≡ (a + b) % 2 ^ 64 = omega arith in
     rw (p, e) (word-low a _ ∙ word-next a (a + b) ws)
 
-pub section-put : (f : List ℕ) (h : Header) (base : ℕ) (starts stops b c : List ℕ) (i k at len from to perm ns nl x y : ℕ) (name : Name)
-    → c ≡ splice b k (wordBytes (x ∷ y ∷ from ∷ to ∷ perm ∷ ns ∷ nl ∷ (i + 1) ∷ [])) → x ≡ (base + at) % 2 ^ 64 → y ≡ (x + len) % 2 ^ 64 → at ≡ getD starts i 0 → len ≡ rangeLength f h i
+pub section-put : (f : List ℕ) (h : Header) (base : ℕ) (home : ℕ → Offset) (stops b c : List ℕ) (i k len from to perm ns nl x y : ℕ) (at : RVA) (name : Name)
+    → c ≡ splice b k (wordBytes (x ∷ y ∷ from ∷ to ∷ perm ∷ ns ∷ nl ∷ (i + 1) ∷ [])) → x ≡ (base + at .0) % 2 ^ 64 → y ≡ (x + len) % 2 ^ 64 → at ≡ rva (startOf (home i)) → len ≡ rangeLength f h i
     → from ≡ fileStart f h i → to ≡ fileEnd f h i → perm ≡ permissions f h i → ns ≡ nameStart name → nl ≡ nameLength name → name ≡ sectionNameBy f h stops i → stops ≡ stopsOf f h
-    → c ≡ splice b k (wordBytes (sectionWords f h base starts i))
+    → c ≡ splice b k (wordBytes (sectionWords f h base home i))
 unfolding sectionWords
-section-put f h base starts stops b c i k at len from to perm ns nl x y name d lo hi e1 e2 e3 e4 e5 e6 e7 e w =
+section-put f h base home stops b c i k len from to perm ns nl x y at name d lo hi e1 e2 e3 e4 e5 e6 e7 e w =
     let e8 : name ≡ sectionName f h i = e ∙ section-name-is f h stops w i in
-    rw (← e1, ← e2, ← e3, ← e4, ← e5, ← e8, ← e6, ← e7)
-    (d ∙ ap (splice b k) (two-low (base + at) len (from ∷ to ∷ perm ∷ ns ∷ nl ∷ (i + 1) ∷ []) x y lo hi))
+    let e9 : at .0 ≡ startOf (home i) = ap (λ (o : RVA). o .0) e1 in
+    rw (← e9, ← e2, ← e3, ← e4, ← e5, ← e8, ← e6, ← e7)
+    (d ∙ ap (splice b k) (two-low (base + at .0) len (from ∷ to ∷ perm ∷ ns ∷ nl ∷ (i + 1) ∷ []) x y lo hi))
 
 pub undef-put : (base undef : ℕ) (b c : List ℕ) (k x y : ℕ) → c ≡ splice b k (wordBytes (x ∷ y ∷ 0 ∷ 0 ∷ READ ∷ 0 ∷ 0 ∷ 0 ∷ [])) → x ≡ (base + undef) % 2 ^ 64 → y ≡ (x + PAGE-SIZE) % 2 ^ 64
     → c ≡ splice b k (wordBytes (undefWords base undef))
 undef-put base undef b c k x y d lo hi = d ∙ ap (splice b k) (two-low (base + undef) PAGE-SIZE (0 ∷ 0 ∷ READ ∷ 0 ∷ 0 ∷ 0 ∷ []) x y lo hi)
 
-section-long : (f : List ℕ) (h : Header) (base : ℕ) (starts : List ℕ) (i : ℕ) → 8 * length (sectionWords f h base starts i) ≡ SECTION-BYTES
+section-long : (f : List ℕ) (h : Header) (base : ℕ) (home : ℕ → Offset) (i : ℕ) → 8 * length (sectionWords f h base home i) ≡ SECTION-BYTES
 unfolding sectionWords
-section-long f h base starts i = refl
+section-long f h base home i = refl
 
 -- ---- the loop over the sections
-module _ (f : List ℕ) (h : Header) (base : ℕ) (starts : List ℕ) where
+module _ (f : List ℕ) (h : Header) (base : ℕ) (home : ℕ → Offset) where
   abbrev pub Written : List ℕ → List ℕ → ℕ → ℕ → Type 0
-  Written l b n i = Standing SECTION-BYTES (picked (loaded f h) (sectionWords f h base starts) i) l b n i
+  Written l b n i = Standing SECTION-BYTES (picked (loaded f h) (sectionWords f h base home) i) l b n i
 
   pub sections-none : (l : List ℕ) → Written l l 0 0
-  sections-none l = picked-none (loaded f h) (sectionWords f h base starts) SECTION-BYTES l
+  sections-none l = picked-none (loaded f h) (sectionWords f h base home) SECTION-BYTES l
 
   module _ (l b : List ℕ) (n i : ℕ) (t : Bool) where
-    pub sections-more : (c : List ℕ) → Written l b n i → t ≡ loaded f h i → t ≡ true → c ≡ splice b (SECTION-BYTES * n) (wordBytes (sectionWords f h base starts i)) → Written l c (n + 1) (i + 1)
-    sections-more c o e y d = picked-more (loaded f h) (sectionWords f h base starts) SECTION-BYTES i n l b t e o (section-long f h base starts i) c y d
+    pub sections-more : (c : List ℕ) → Written l b n i → t ≡ loaded f h i → t ≡ true → c ≡ splice b (SECTION-BYTES * n) (wordBytes (sectionWords f h base home i)) → Written l c (n + 1) (i + 1)
+    sections-more c o e y d = picked-more (loaded f h) (sectionWords f h base home) SECTION-BYTES i n l b t e o (section-long f h base home i) c y d
 
     pub sections-same : Written l b n i → t ≡ loaded f h i → t ≡ false → Written l b n (i + 1)
-    sections-same o e y = picked-same (loaded f h) (sectionWords f h base starts) SECTION-BYTES i n l b t e o y
+    sections-same o e y = picked-same (loaded f h) (sectionWords f h base home) SECTION-BYTES i n l b t e o y
 
-pub sections-end : (f : List ℕ) (h : Header) (base : ℕ) (starts : List ℕ) (undef i n m : ℕ) (l b c : List ℕ) → Standing SECTION-BYTES (picked (loaded f h) (sectionWords f h base starts) i) l b n i → i ≤ m → m ≤ i
-    → m ≡ h .sections → c ≡ splice b (SECTION-BYTES * n) (wordBytes (undefWords base undef)) → c ≡ splice l 0 (sectionTable f h base starts undef)
-sections-end f h base starts undef i n m l b c o a k z d =
+pub sections-end : (f : List ℕ) (h : Header) (base : ℕ) (home : ℕ → Offset) (undef i n m : ℕ) (l b c : List ℕ) → Standing SECTION-BYTES (picked (loaded f h) (sectionWords f h base home) i) l b n i → i ≤ m → m ≤ i
+    → m ≡ h .sections → c ≡ splice b (SECTION-BYTES * n) (wordBytes (undefWords base undef)) → c ≡ splice l 0 (sectionTable f h base home undef)
+sections-end f h base home undef i n m l b c o a k z d =
     let w : i ≡ h .sections = omega arith in
-    standing-behind SECTION-BYTES (picked (loaded f h) (sectionWords f h base starts) i) (wordBytes (undefWords base undef)) l b c n i o d
-    ∙ ap (λ (j : ℕ). splice l 0 (picked (loaded f h) (sectionWords f h base starts) j ++ wordBytes (undefWords base undef))) w
+    standing-behind SECTION-BYTES (picked (loaded f h) (sectionWords f h base home) i) (wordBytes (undefWords base undef)) l b c n i o d
+    ∙ ap (λ (j : ℕ). splice l 0 (picked (loaded f h) (sectionWords f h base home) j ++ wordBytes (undefWords base undef))) w
 
 pub sections-long : (T R l b c : List ℕ) (i n : ℕ) → Standing SECTION-BYTES T l b n i → c ≡ splice b (SECTION-BYTES * n) R → length c ≡ length l
 sections-long T R l b c i n o d = splice-long b c (SECTION-BYTES * n) R d ∙ standing-long SECTION-BYTES T l b n i o

@@ -8,6 +8,7 @@ ghost use Prim.Native.Nat.{_*_};
 ghost use Rattle.limits.specs.Records.{SECTION-BYTES};
 ghost use Rattle.le.specs.Le.{splice};
 ghost use Rattle.stops.specs.Stops.{stopsOf};
+ghost use Rattle.homes.specs.Home.{homeIn};
 ghost use Rattle.words.specs.Words.{wordBytes};
 ghost use Rattle.tables.specs.Sections.{sectionWords, undefWords, sectionTable};
 
@@ -19,16 +20,17 @@ fn put_section(
     f: &[u8],
     h: Header,
     base: VA,
-    starts: &[u32],
+    homes: &[u32],
     stops: &[u32],
     i: u32,
     n: u32,
     b: &mut [u8],
 )
     requires { ⌜ now stops ≡ stopsOf (now f) h ⌝ }
-    ensures { λ _. ⌜ now (b .exit) ≡ splice (now (b .entry)) (SECTION-BYTES * n) (wordBytes (sectionWords (now (f .entry)) h (base .0) (now (starts .entry)) i)) ⌝ }
+    ensures { λ _. ⌜ now (b .exit) ≡ splice (now (b .entry)) (SECTION-BYTES * n) (wordBytes (sectionWords (now (f .entry)) h (base .0) (homeIn (now (homes .entry))) i)) ⌝ }
 {
-    let start = std::num::wrapping_add_u64(base.0, le::word_at(starts, i as usize) as u64);
+    let at = homes::start_in(homes, i);
+    let start = std::num::wrapping_add_u64(base.0, at.0);
     let end = std::num::wrapping_add_u64(start, object::range_length(f, h, i));
     let name = stops::section_name(f, h, stops, i);
     let ws = [
@@ -58,20 +60,20 @@ fn list_sections(
     f: &[u8],
     h: Header,
     base: VA,
-    starts: &[u32],
+    homes: &[u32],
     stops: &[u32],
     undef: RVA,
     b: &mut [u8],
 )
     requires { ⌜ now stops ≡ stopsOf (now f) h ⌝ }
-    ensures { λ _. ⌜ now (b .exit) ≡ splice (now (b .entry)) 0 (sectionTable (now (f .entry)) h (base .0) (now (starts .entry)) (undef .0)) ⌝ }
+    ensures { λ _. ⌜ now (b .exit) ≡ splice (now (b .entry)) 0 (sectionTable (now (f .entry)) h (base .0) (homeIn (now (homes .entry))) (undef .0)) ⌝ }
 {
     let m = h.sections as u32;
     let mut n: u32 = 0;
     let mut i: u32 = 0;
     while i < m {
         if object::is_loaded(f, h, i) {
-            put_section(f, h, base, starts, stops, i, n, b);
+            put_section(f, h, base, homes, stops, i, n, b);
             n += 1;
             i += 1;
         } else {
@@ -82,10 +84,10 @@ fn list_sections(
 }
 
 // The table; long names are found by the noted stops.
-pub fn write_sections(f: &[u8], h: Header, base: VA, starts: &[u32], undef: RVA, b: &mut [u8])
-    ensures { λ _. ⌜ now (b .exit) ≡ splice (now (b .entry)) 0 (sectionTable (now (f .entry)) h (base .0) (now (starts .entry)) (undef .0)) ⌝ }
+pub fn write_sections(f: &[u8], h: Header, base: VA, homes: &[u32], undef: RVA, b: &mut [u8])
+    ensures { λ _. ⌜ now (b .exit) ≡ splice (now (b .entry)) 0 (sectionTable (now (f .entry)) h (base .0) (homeIn (now (homes .entry))) (undef .0)) ⌝ }
 {
     let mut stops = [0u32; stops::BLOCKS];
     let n = stops::fill_stops(f, h, &mut stops);
-    list_sections(f, h, base, starts, le::words(&stops, n), undef, b);
+    list_sections(f, h, base, homes, le::words(&stops, n), undef, b);
 }

@@ -11,7 +11,7 @@ use Rattle.arch.specs.declared.RVA.{RVA}
 use Rattle.arch.specs.declared.Offset.{Offset}
 use Rattle.arch.specs.declared.Offset.the-variants.{At, None}
 use Rattle.arch.specs.Address.{rva}
-use Rattle.homes.specs.Home.{byNumber}
+use Rattle.homes.specs.Home.{byNumber, startOf}
 use Rattle.codes.specs.Code.{REFUSED, UNDEF-RECORD, HOMES, RECORDS, SLOTS}
 use Rattle.targets.specs.declared.Skip.the-variants.{NoSymbol, NoHome, NoSlot}
 use Rattle.targets.specs.declared.Target.{Target}
@@ -51,27 +51,27 @@ module _ (undef c : ℕ) where
 
 pub ruleset plain-ways = (plain-none, plain-refused, plain-undef, plain-slot)
 
-module _ (home : ℕ → Offset) (starts : List ℕ) (undef c : ℕ) where
-  pub code-plain : (r : Target) → ltb c HOMES ≡ true → r ≡ plainTarget undef c → r ≡ codeTarget home starts undef c
+module _ (home : ℕ → Offset) (undef c : ℕ) where
+  pub code-plain : (r : Target) → ltb c HOMES ≡ true → r ≡ plainTarget undef c → r ≡ codeTarget home undef c
   unfolding codeTarget pick
   code-plain r e q = rw e q
 
   module _ (high : ltb c HOMES ≡ false) where
-    pub code-home : (r : Target) → ltb c RECORDS ≡ true → r ≡ homeTarget (byNumber home None (c - HOMES)) → r ≡ codeTarget home starts undef c
+    pub code-home : (r : Target) → ltb c RECORDS ≡ true → r ≡ homeTarget (byNumber home None (c - HOMES)) → r ≡ codeTarget home undef c
     unfolding codeTarget pick
     code-home r e q = rw (high, e) q
 
     module _ (higher : ltb c RECORDS ≡ false) where
-      pub code-record : (s : ℕ) → ltb c SLOTS ≡ true → s ≡ getD starts (c - RECORDS) 0 → Named (rva s) ≡ codeTarget home starts undef c
+      pub code-record : (s : RVA) → ltb c SLOTS ≡ true → s ≡ rva (startOf (home (c - RECORDS))) → Named s ≡ codeTarget home undef c
       unfolding codeTarget pick
       code-record s e q = rw (high, higher, e, q)
 
-      pub code-slot : ltb c SLOTS ≡ false → Slot (rva (undef + SLOT-SIZE * (c - SLOTS))) ≡ codeTarget home starts undef c
+      pub code-slot : ltb c SLOTS ≡ false → Slot (rva (undef + SLOT-SIZE * (c - SLOTS))) ≡ codeTarget home undef c
       unfolding codeTarget pick
       code-slot e = rw (high, higher, e)
 
 pub ruleset code-ways = (code-plain, code-home, code-record, code-slot)
 
-pub target-by : (home : ℕ → Offset) (starts codes : List ℕ) (undef c j : ℕ) {r : Target} → r ≡ codeTarget home starts undef c → c ≡ getD codes j 0
-    → r ≡ codeTarget home starts undef (getD codes j 0)
-target-by home starts codes undef c j p q = rw (← q) p
+pub target-by : (home : ℕ → Offset) (codes : List ℕ) (undef c j : ℕ) {r : Target} → r ≡ codeTarget home undef c → c ≡ getD codes j 0
+    → r ≡ codeTarget home undef (getD codes j 0)
+target-by home codes undef c j p q = rw (← q) p

@@ -17,7 +17,8 @@ use Rattle.rules.specs.declared.Rule.the-variants as rules
 use Rattle.rules.specs.Rule.{ruleRefusal}
 use Rattle.codes.specs.Code.{symbolRule}
 use Rattle.layout.specs.Layout.{undefStart}
-use Rattle.homes.specs.Home.{namedRecord, homeStart, byNumber, sectionHome}
+use Rattle.ranks.specs.Named.{namedRecord}
+use Rattle.homes.specs.Home.{sectionHome, recordStart, byNumber}
 use Rattle.externs.specs.declared.Found.{Found}
 use Rattle.externs.specs.declared.Found.the-variants.{Index, Nothing}
 use Rattle.externs.specs.Externs.{externs}
@@ -66,7 +67,7 @@ module _ (f : List ℕ) (h : Header) (home : ℕ → Offset) (undef : ℕ) (slot
 
   -- the section of symbol j's name, else its slot
   abbrev pub namedFor : ℕ → Target
-  namedFor j = namedTarget (homeStart f h (namedRecord f h (symbolText f h j))) (slotFor j)
+  namedFor j = namedTarget (recordStart f h (namedRecord f h (symbolText f h j))) (slotFor j)
 
   -- symbol j, by what is looked for
   unfoldable pub ruleTarget : Rule → ℕ → Target
@@ -107,5 +108,5 @@ rule-refused f h home undef slot (rules.Section n) j = home-not-refused (byNumbe
 rule-refused f h home undef slot rules.Extern j = slot-not-refused undef (slot (symbolText f h j))
 rule-refused f h home undef slot rules.Slot j = slot-not-refused undef (slot (symbolText f h j))
 rule-refused f h home undef slot rules.Name j =
-    named-not-refused (homeStart f h (namedRecord f h (symbolText f h j))) (slotFor f h home undef slot j) (slot-not-refused undef (slot (symbolText f h j)))
+    named-not-refused (recordStart f h (namedRecord f h (symbolText f h j))) (slotFor f h home undef slot j) (slot-not-refused undef (slot (symbolText f h j)))
 rule-refused f h home undef slot rules.Refused j = refl

@@ -54,8 +54,8 @@ fn plain_target(undef: u32, c: u16) -> Target
 }
 
 // Of any code.
-fn code_target(homes: &[u32], starts: &[u32], undef: u32, c: u16) -> Target
-    ensures { λ r. ⌜ r ≡ codeTarget (homeIn (now (homes .entry))) (now (starts .entry)) undef c ⌝ }
+fn code_target(homes: &[u32], undef: u32, c: u16) -> Target
+    ensures { λ r. ⌜ r ≡ codeTarget (homeIn (now (homes .entry))) undef c ⌝ }
 {
     let n = c as u32;
     let plain = n < codes::HOMES;
@@ -68,15 +68,15 @@ fn code_target(homes: &[u32], starts: &[u32], undef: u32, c: u16) -> Target
     }
     let record = n < codes::SLOTS;
     if record {
-        Target::Named(RVA(le::word_at(starts, (n - codes::RECORDS) as usize) as u64))
+        Target::Named(homes::start_in(homes, n - codes::RECORDS))
     } else {
         Target::Slot(RVA(undef as u64 + limits::SLOT_SIZE * ((n - codes::SLOTS) as u64)))
     }
 }
 
-// What symbol j comes to: `codes` has what is kept of the symbols, `homes` the sections' homes, `starts` their starts.
-pub fn target_in(homes: &[u32], starts: &[u32], undef: u32, codes: &[u16], j: u32) -> Target
-    ensures { λ r. ⌜ r ≡ targetIn (now (homes .entry)) (now (starts .entry)) undef (now (codes .entry)) j ⌝ }
+// What symbol j comes to: `codes` has what is kept of the symbols, `homes` what is kept of the sections' homes.
+pub fn target_in(homes: &[u32], undef: u32, codes: &[u16], j: u32) -> Target
+    ensures { λ r. ⌜ r ≡ targetIn (now (homes .entry)) undef (now (codes .entry)) j ⌝ }
 {
-    code_target(homes, starts, undef, codes::code_at(codes, j))
+    code_target(homes, undef, codes::code_at(codes, j))
 }

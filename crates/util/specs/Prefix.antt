@@ -10,7 +10,7 @@ use native.Mathlib.Omega.{arith}
 use lib.ListN.{length, getD, length-append, List·getD-append, List·getD-eq-default}
 use lib.Seq.{getD-append-seam}
 use borrow.Author.Tests.{not-true, not-false}
-use Rattle.util.specs.Pick.{pick, and-left, and-right, and-both}
+use Rattle.util.specs.Pick.{pick, yes-no, and-left, and-right, and-both}
 
 -- each number below n passes; with n = 0 it holds
 unfoldable pub allTo : (ℕ → Bool) → ℕ → Bool
@@ -182,6 +182,29 @@ module _ (p : ℕ → Bool) where
   count-end i n m c e a b q = let z : i ≡ m = omega arith in cc
 
 pub ruleset count-loop = (count-none, count-yes, count-no, count-end)
+
+module _ (p : ℕ → Bool) where
+  pub count-more : (n : ℕ) → p n ≡ true → countTo p (suc n) ≡ countTo p n + 1
+  unfolding countTo pick
+  count-more n t = rw t
+
+  pub count-same : (n : ℕ) → p n ≡ false → countTo p (suc n) ≡ countTo p n
+  unfolding countTo pick
+  count-same n t = rw t (omega arith)
+
+  -- n numbers hold no more than n that pass
+  pub count-most : (n : ℕ) → countTo p n ≤ n
+  unfolding countTo
+  count-most zero = omega arith
+  count-most (suc n) = let r = count-most n in ⊎-elim (λ t. rw (count-more n t) (omega arith)) (λ t. rw (count-same n t) (omega arith)) (yes-no (p n))
+
+  -- the place of a number among those that pass is the count of those before it
+  pub count-below : (n i : ℕ) → i < n → p i ≡ true → countTo p i < countTo p n
+  count-below zero i h t = absurd (not-suc-le-zero h)
+  count-below (suc n) i h t =
+      ⊎-elim (λ q. rw (q, count-more n (rw q at t)) (omega arith))
+      (λ lt. let r = count-below n i lt t in ⊎-elim (λ y. rw (count-more n y) (omega arith)) (λ y. rw (count-same n y) r) (yes-no (p n)))
+      (eq-or-lt-of-le (le-of-suc-le-suc h))
 
 -- ---- a list: it has an element for each number, in their order, and reads as the default behind them
 module _ {A : Type 0} (g : ℕ → A) where

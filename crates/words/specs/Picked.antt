@@ -5,13 +5,13 @@ use mathlib.Core.List.{List, [], _∷_, _++_, append-nil}
 use mathlib.Core.Logic.{⊎-elim}
 use Prim.Native.Nat.{ℕ, zero, suc, _+_, _*_, _≤_, _<_}
 use native.Mathlib.Omega.{arith}
-use native.Mathlib.Nat.{add-zero, not-suc-le-zero, le-of-suc-le-suc, eq-or-lt-of-le}
+use native.Mathlib.Nat.{not-suc-le-zero, le-of-suc-le-suc, eq-or-lt-of-le}
 use native.Mathlib.Numerals.{add-one}
 use lib.ListN.{length, getD, length-append, List·getD-append}
 use lib.Seq.{getD-append-seam}
 use Rattle.limits.specs.Records.{WORD}
 use Rattle.util.specs.Pick.{pick, yes-no}
-use Rattle.util.specs.Prefix.{countTo}
+use Rattle.util.specs.Prefix.{countTo, count-more, count-same, count-below}
 use Rattle.le.specs.Le.{splice, splice-next, splice-long}
 use Rattle.words.specs.Words.{wordBytes, length-words}
 use Rattle.words.specs.Rows.{rowWords, rows-join}
@@ -41,29 +41,14 @@ module _ (p : ℕ → Bool) where
   unfolding chosen pick
   chosen-no n t = rw t
 
-  count-yes : (n : ℕ) → p n ≡ true → countTo p (suc n) ≡ countTo p n + 1
-  unfolding countTo pick
-  count-yes n t = rw t
-
-  count-no : (n : ℕ) → p n ≡ false → countTo p (suc n) ≡ countTo p n
-  unfolding countTo pick
-  count-no n t = rw (t, add-zero)
-
   pub length-chosen : (n : ℕ) → length (chosen p n) ≡ countTo p n
   unfolding chosen countTo
   length-chosen zero = refl
   length-chosen (suc n) =
       let e = length-chosen n in
-      ⊎-elim (λ t. rw (chosen-yes n t, count-yes n t) (length-append (chosen p n) (n ∷ []) ∙ rw e)) (λ t. rw (chosen-no n t, count-no n t) e) (yes-no (p n))
+      ⊎-elim (λ t. rw (chosen-yes n t, count-more p n t) (length-append (chosen p n) (n ∷ []) ∙ rw e)) (λ t. rw (chosen-no n t, count-same p n t) e) (yes-no (p n))
 
-  -- the place of a number among them is the count of those before it
-  pub count-below : (n i : ℕ) → i < n → p i ≡ true → countTo p i < countTo p n
-  count-below zero i h t = absurd (not-suc-le-zero h)
-  count-below (suc n) i h t =
-      ⊎-elim (λ q. rw (q, count-yes n (rw q at t)) (omega arith))
-      (λ lt. let r = count-below n i lt t in ⊎-elim (λ y. rw (count-yes n y) (omega arith)) (λ y. rw (count-no n y) r) (yes-no (p n)))
-      (eq-or-lt-of-le (le-of-suc-le-suc h))
-
+  -- a number stands behind as many as pass before it
   pub chosen-at : (n i d : ℕ) → i < n → p i ≡ true → getD (chosen p n) (countTo p i) d ≡ i
   chosen-at zero i d h t = absurd (not-suc-le-zero h)
   chosen-at (suc n) i d h t =
@@ -72,7 +57,7 @@ module _ (p : ℕ → Bool) where
       (λ q. rw (q, chosen-yes n (rw q at t), ← l) (getD-append-seam (chosen p n) n [] d))
       (λ lt.
       let r = chosen-at n i d lt t in
-      let m = count-below n i lt t in
+      let m = count-below p n i lt t in
       ⊎-elim (λ y. rw (chosen-yes n y) (List·getD-append (chosen p n) (n ∷ []) d (countTo p i) (omega arith) ∙ r)) (λ y. rw (chosen-no n y) r) (yes-no (p n)))
       (eq-or-lt-of-le (le-of-suc-le-suc h))
 

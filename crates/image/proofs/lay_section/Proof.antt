@@ -1,6 +1,5 @@
 use borrow.Author.Needs.{needs}
 use Rattle.image.proofs.Laws.{section-ways}
-use Rattle.le.specs.Le.{splice-long}
 use Rattle.image.proofs.lay_section.Statement.{statement}
 use Rattle.image.proofs.lay_section.Tie as tie
 
@@ -8,11 +7,10 @@ pub lay-section-spec : {M : Type 1} → statement M
 lay-section-spec =
     tie.close
     (tie.spec
-    (λ c. search (needs, section-ways, splice-long))
-    (λ c. search (needs, section-ways, splice-long))
-    (λ c. search (needs, section-ways, splice-long))
-    (λ c. search (needs, section-ways, splice-long))
-    (λ c. search (needs, section-ways, splice-long))
-    (λ c. search (needs, section-ways, splice-long))
-    (λ c. search (needs, section-ways, splice-long))
-    (λ c. search (needs, section-ways, splice-long)))
+    (λ c. search (needs, section-ways))
+    (λ c. search (needs, section-ways))
+    (λ c. search (needs, section-ways))
+    (λ c. search (needs, section-ways))
+    (λ c. search (needs, section-ways))
+    (λ c. search (needs, section-ways))
+    (λ c. search (needs, section-ways)))

@@ -14,4 +14,6 @@ precedes-spec =
     (λ c. search (needs, precedes-ways))
     (λ c. search (needs, precedes-ways))
     (λ c. search (needs, precedes-ways))
+    (λ c. search (needs, precedes-ways))
+    (λ c. search (needs, precedes-ways))
     (λ c. search (needs, precedes-ways)))

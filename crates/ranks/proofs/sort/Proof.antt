@@ -2,17 +2,18 @@ use borrow.Author.Needs.{needs}
 use mathlib.Core.Path.{_≡_}
 use Prim.Native.Nat.{_-_, _<_}
 use lib.ListN.{length}
-use Rattle.ranks.specs.Rank.{sectionKey, lateness}
+use Rattle.names.specs.Name.{sectionText}
+use Rattle.ranks.specs.Rank.{lateness}
 use Rattle.ranks.specs.Merge.{RunsRanked}
 use Rattle.ranks.proofs.Runs.{runs-again, runs-loop}
 use Rattle.ranks.proofs.sort.Statement.{statement}
 use Rattle.ranks.proofs.sort.Tie as tie
 
 abbrev Inv-loop : tie.InvT-loop
-Inv-loop f h by a₀ spare₀ n w₀ a spare w = (0 < w) × (length spare ≡ length a₀) × RunsRanked (sectionKey by f h) (lateness f h) w a₀ a
+Inv-loop f h a₀ spare₀ n w₀ a spare w = (0 < w) × (length spare ≡ length a₀) × RunsRanked (sectionText f h) (lateness f h) w a₀ a
 
 abbrev μ-loop : tie.MeasureT-loop
-μ-loop f h by a₀ spare₀ n w₀ a spare w = n - w
+μ-loop f h a₀ spare₀ n w₀ a spare w = n - w
 
 again : tie.Need-loop-again Inv-loop μ-loop
 again c =

@@ -9,6 +9,5 @@ survey-many-spec =
     (tie.spec
     (λ c. search (needs, arrays))
     (λ c. search (needs, arrays))
-    (λ c. search (needs, arrays))
     (λ c κs. (search needs, search (needs, arrays)))
     (λ c. search (needs, arrays)))

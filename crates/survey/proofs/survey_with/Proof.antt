@@ -15,6 +15,4 @@ survey-with-spec =
     (λ c. search (needs, section-ways))
     (λ c. search (needs, section-ways))
     (λ c. search (needs, section-ways))
-    (λ c. search (needs, section-ways))
-    (λ c. search (needs, section-ways))
     (λ c. search (needs, section-ways)))

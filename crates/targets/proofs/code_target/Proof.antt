@@ -19,6 +19,4 @@ code-target-spec =
     (λ c. search (needs, code-ways))
     (λ c. search (needs, code-ways))
     (λ c. search (needs, code-ways))
-    (λ c. search (needs, code-ways))
-    (λ c. search (needs, code-ways))
     (λ c. search (needs, code-ways)))

@@ -10,10 +10,10 @@ use Rattle.fixups.proofs.tallies.with_section.Statement.{statement}
 use Rattle.fixups.proofs.tallies.with_section.Tie as tie
 
 abbrev Inv-loop : tie.InvT-loop
-Inv-loop arch types f homes starts undef codes pages i records word m sum₀ k₀ sum k = (k ≤ m) × (sum ≡ rowTo pages (readOutcome arch f (targetIn homes starts undef codes) records (wordHome word)) i sum₀ k) × AtMost sum (2 ^ 32 * i + k)
+Inv-loop arch types f homes undef codes pages i records word m sum₀ k₀ sum k = (k ≤ m) × (sum ≡ rowTo pages (readOutcome arch f (targetIn homes undef codes) records (wordHome word)) i sum₀ k) × AtMost sum (2 ^ 32 * i + k)
 
 abbrev μ-loop : tie.MeasureT-loop
-μ-loop arch types f homes starts undef codes pages i records word m sum₀ k₀ sum k = m - k
+μ-loop arch types f homes undef codes pages i records word m sum₀ k₀ sum k = m - k
 
 pub with-section-spec : {M : Type 1} → statement M
 with-section-spec =

@@ -9,8 +9,7 @@ unfolding Low
 home-in-spec =
     tie.close
     (tie.spec
-    (λ c. search needs)
-    (λ c. search needs)
-    (λ c. search needs)
-    (λ c. (search (needs, words), search (needs, words)))
-    (λ c. (search (needs, words), search (needs, words))))
+    (λ c. search (needs, words))
+    (λ c. search (needs, words))
+    (λ c. search (needs, words))
+    (λ c. search (needs, words)))

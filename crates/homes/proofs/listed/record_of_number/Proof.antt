@@ -7,8 +7,9 @@ pub record-of-number-spec : {M : Type 1} → statement M
 record-of-number-spec =
     tie.close
     (tie.spec
-    (λ c. search needs)
-    (λ c. search needs)
-    (λ c. search needs)
+    (λ c. search (needs, words))
+    (λ c. search (needs, words))
+    (λ c. search (needs, words))
+    (λ c. search (needs, words))
     (λ c. search (needs, words))
     (λ c. search (needs, words)))

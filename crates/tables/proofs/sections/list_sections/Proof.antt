@@ -1,14 +1,15 @@
 use borrow.Author.Needs.{needs}
 use Prim.Native.Nat.{_-_, _^_, _≤_, _<_}
+use Rattle.homes.specs.Home.{homeIn}
 use Rattle.tables.proofs.Laws.{Written, sections-loop, sections-more, sections-same}
 use Rattle.tables.proofs.sections.list_sections.Statement.{statement}
 use Rattle.tables.proofs.sections.list_sections.Tie as tie
 
 abbrev Inv-loop : tie.InvT-loop
-Inv-loop f h base starts stops undef b₀ m n₀ i₀ b n i = (m < 2 ^ 32) × (i ≤ m) × Written f h (base .0) starts b₀ b n i
+Inv-loop f h base homes stops undef b₀ m n₀ i₀ b n i = (m < 2 ^ 32) × (i ≤ m) × Written f h (base .0) (homeIn homes) b₀ b n i
 
 abbrev μ-loop : tie.MeasureT-loop
-μ-loop f h base starts stops undef b₀ m n₀ i₀ b n i = m - i
+μ-loop f h base homes stops undef b₀ m n₀ i₀ b n i = m - i
 
 pub list-sections-spec : {M : Type 1} → statement M
 list-sections-spec =
