@@ -50,6 +50,9 @@ module _ (k : RelocationKind) (x : Fix) where
 
 pub ruleset kind-ways = (by-absolute, by-image, by-section, by-relative, by-not-carried, by-unknown)
 
+pub fix-unpacked : (t u : RelocationType) (place o : RVA) (r : Outcome) → t ≡ u → r ≡ fixAt t place o → r ≡ fixAt u place o
+fix-unpacked t u place o r e q = rw (← e) q
+
 module _ (g : Target) (t : RelocationType) (place : RVA) where
   pub resolved-home : (o : RVA) (r : Outcome) → g ≡ Home o → r ≡ fixAt t place o → r ≡ resolved g t place
   unfolding resolved

@@ -4,10 +4,10 @@ use crate::Outcome;
 use arch::RVA;
 use arch::VA;
 use kinds::RelocationKind;
-use kinds::RelocationType;
 use targets::Skip;
 use targets::Target;
 ghost use mathlib.Core.Path.{_≡_};
+ghost use Rattle.kinds.specs.Rows.{unpacked};
 ghost use Rattle.homes.specs.Home.{wordHome};
 ghost use Rattle.fixups.specs.Outcome.{byKind, fixAt, resolved, outcomeAt};
 ghost use Rattle.fixups.specs.Value.{isRelative, valueOf};
@@ -25,9 +25,11 @@ fn by_kind(kind: RelocationKind, x: Fix) -> Outcome
     }
 }
 
-fn fix_at(t: RelocationType, place: RVA, target: RVA) -> Outcome
-    ensures { λ r. ⌜ r ≡ fixAt t place target ⌝ }
+// Here the symbol has a target, so the type's row is unpacked.
+fn fix_at(row: u8, place: RVA, target: RVA) -> Outcome
+    ensures { λ r. ⌜ r ≡ fixAt (unpacked row) place target ⌝ }
 {
+    let t = kinds::unpack(row);
     let kind = t.kind;
     let x = Fix {
         place: place,
@@ -39,27 +41,27 @@ fn fix_at(t: RelocationType, place: RVA, target: RVA) -> Outcome
     by_kind(kind, x)
 }
 
-fn resolved(target: Target, t: RelocationType, place: RVA) -> Outcome
-    ensures { λ r. ⌜ r ≡ resolved target t place ⌝ }
+fn resolved(target: Target, row: u8, place: RVA) -> Outcome
+    ensures { λ r. ⌜ r ≡ resolved target (unpacked row) place ⌝ }
 {
     match target {
-        Target::Home(o) => fix_at(t, place, o),
-        Target::Named(o) => fix_at(t, place, o),
-        Target::Slot(o) => fix_at(t, place, o),
+        Target::Home(o) => fix_at(row, place, o),
+        Target::Named(o) => fix_at(row, place, o),
+        Target::Slot(o) => fix_at(row, place, o),
         Target::Missing(k) => Outcome::Skipped(k),
         Target::Refused => Outcome::Refused,
     }
 }
 
-// What becomes of a relocation with that address field: `word` is what is kept of its section's home, t is its type, g what its symbol comes to.
-pub fn outcome_at(word: u32, address: u32, t: RelocationType, g: Target) -> Outcome
-    ensures { λ r. ⌜ r ≡ outcomeAt (wordHome word) address t g ⌝ }
+// What becomes of a relocation with that address field: `word` is what is kept of its section's home, `row` is its type's, g what its symbol comes to.
+pub fn outcome_at(word: u32, address: u32, row: u8, g: Target) -> Outcome
+    ensures { λ r. ⌜ r ≡ outcomeAt (wordHome word) address (unpacked row) g ⌝ }
 {
     if word == 0 {
         Outcome::Passed
     } else {
         let start = homes::word_start(word);
-        resolved(g, t, RVA(start.0 + address as u64))
+        resolved(g, row, RVA(start.0 + address as u64))
     }
 }
 

@@ -91,7 +91,7 @@ fn with_outcome(pages: u32, t: Tally, o: Outcome) -> Tally
 // be compiled into its loop.
 fn outcome_of(
     arch: Arch,
-    types: &[[u64; 3]],
+    types: &[u8],
     f: &[u8],
     records: Records,
     word: u32,
@@ -105,13 +105,13 @@ fn outcome_of(
 {
     let r = object::read_relocation(f, records, k);
     let target = targets::target_in(homes, undef, codes, r.symbol);
-    outcomes::outcome_at(word, r.address, kinds::type_in(types, r.typ), target)
+    outcomes::outcome_at(word, r.address, kinds::row_in(types, r.typ), target)
 }
 
 // The records of section i, one by one.
 fn with_section(
     arch: Arch,
-    types: &[[u64; 3]],
+    types: &[u8],
     f: &[u8],
     h: Header,
     homes: &[u32],
@@ -154,7 +154,7 @@ fn with_passed(t: Tally, n: u32) -> Tally
 // The sections one by one. In one without a home all relocations are passed, and none is read.
 fn tally_with(
     arch: Arch,
-    types: &[[u64; 3]],
+    types: &[u8],
     f: &[u8],
     h: Header,
     homes: &[u32],

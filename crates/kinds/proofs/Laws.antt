@@ -1,12 +1,12 @@
 -- The ways through the code. Assumes nothing.
 use mathlib.Core.Path.{_≡_, refl, _∙_}
 use mathlib.Core.Bool.{true, false, not}
-use mathlib.Core.List.{List, []}
+use mathlib.Core.List.{List, [], _∷_}
 use Prim.Native.Nat.{ℕ, zero, suc, _+_, _-_, _*_, _/_, _%_, _^_, _≤_, _<_}
 use native.Mathlib.Omega.{arith}
 use native.Mathlib.Nat.{one-mul}
 use lib.Dec.{eqb, lit<}
-use lib.ListN.{getD, length}
+use lib.ListN.{getD, length, List·getD-eq-default}
 use lib.Pow.{shl-exact}
 use borrow.Author.Tests.{le-leb, lt-leb, lt-ltb, le-ltb}
 use mir.Syntax.{w16}
@@ -18,8 +18,9 @@ use Rattle.kinds.specs.declared.Place.{Place}
 use Rattle.kinds.specs.declared.Place.the-variants.{In, Undefined, Common, Absolute, Nowhere, Other}
 use Rattle.kinds.specs.Flags.{loadedBy, alignOf, permissionsBy}
 use Rattle.kinds.specs.declared.RelocationKind.{RelocationKind}
-use Rattle.kinds.specs.Types.{row, unknown, kindOfNumber}
-use Rattle.kinds.specs.Rows.{typeIn}
+use Rattle.kinds.specs.declared.RelocationKind.the-variants.{Relative}
+use Rattle.kinds.specs.Types.{row, kindOfNumber}
+use Rattle.kinds.specs.Rows.{rowIn, addendOf, unpacked}
 use Rattle.kinds.specs.Symbol.{codeOrData, staticKind, zeroPlace, placeBy}
 
 -- ---- flags
@@ -125,12 +126,28 @@ permissions-sum x =
     omega arith
 
 -- ---- a row of a table
-module _ (rows : List (List ℕ)) (t : ℕ) where
-  pub in-row : (k : RelocationKind) → t < length rows → k ≡ kindOfNumber (getD (getD rows t []) 0 0)
-      → row k (getD (getD rows t []) 1 0) (getD (getD rows t []) 2 0) ≡ typeIn rows t
-  unfolding typeIn pick
-  in-row k h e = rw (lt-ltb t (length rows) h, e)
+-- within a list the default is not asked for
+any-default : (l : List ℕ) (i : ℕ) (d e : ℕ) → i < length l → getD l i d ≡ getD l i e
+any-default [] i d e h = absurd (omega arith)
+any-default (x ∷ l) zero d e h = refl
+any-default (x ∷ l) (suc i) d e h = any-default l i d e (omega arith)
 
-  pub past-rows : length rows ≤ t → unknown ≡ typeIn rows t
-  unfolding typeIn pick
-  past-rows h = rw (le-ltb t (length rows) h)
+module _ (rows : List ℕ) (t : ℕ) where
+  pub in-row : t < length rows → getD rows t 0 ≡ rowIn rows t
+  unfolding rowIn
+  in-row h = any-default rows t 0 0o005 h
+
+  pub past-rows : length rows ≤ t → 0o005 ≡ rowIn rows t
+  unfolding rowIn
+  past-rows h = rw (List·getD-eq-default rows 0o005 h)
+
+pub ruleset row-ways = (in-row, past-rows)
+
+-- ---- a row unpacked
+pub distance : (k : RelocationKind) (n : ℕ) → k ≡ Relative → 0xFFFFFFFFFFFFFFFC - n ≡ addendOf k n
+distance k n e = rw e (omega arith)
+
+module _ (b : ℕ) where
+  pub row-unpacked : (k : RelocationKind) (n : ℕ) → k ≡ kindOfNumber (b % 8) → n ≡ addendOf k (b / 8 % 8) → row k (b / 64 * 32) n ≡ unpacked b
+  unfolding unpacked
+  row-unpacked k n e q = rw (q, e)

@@ -1,102 +1,89 @@
--- The code's tables of types: row t is what the definition says of type t, by one computed test over all rows.
+-- The code's tables of types, a byte a row: row t unpacked is what the definition says of type t, by one computed test over all rows.
 use mathlib.Core.Path.{_≡_, refl, ap, _∙_}
 use mathlib.Core.Bool.{Bool, true, _&&_, and-false}
 use mathlib.Core.List.{List, [], _∷_}
 use mathlib.Core.Logic.{⊎-elim}
-use Prim.Native.Nat.{ℕ, _≤_}
+use Prim.Native.Nat.{ℕ, _+_, _*_, _/_, _%_, _≤_}
 use native.Mathlib.Omega.{arith}
-use lib.Dec.{eqb, leb, ltb}
-use lib.ListN.{getD, length}
-use borrow.Author.Tests.{eqb-true, ne-eqb, lt-leb, lt-ltb, le-ltb}
+use lib.Dec.{eqb, leb, lit≤}
+use lib.ListN.{getD, length, List·getD-eq-default}
+use borrow.Author.Tests.{eqb-true, ne-eqb, lt-leb}
 use Rattle.util.specs.Pick.{pick, and-left, and-right, le-or-lt}
 use Rattle.arch.specs.declared.Arch.{Arch}
 use Rattle.arch.specs.declared.Arch.the-variants.{X32, X64}
 use Rattle.util.specs.Prefix.{allTo, all-at}
+use Rattle.kinds.specs.declared.RelocationKind.{RelocationKind}
+use Rattle.kinds.specs.declared.RelocationKind.the-variants.{Absolute, ImageOffset, SectionOffset, Relative, NotCarried, Unknown}
 use Rattle.kinds.specs.declared.RelocationType.{RelocationType}
-use Rattle.kinds.specs.Types.{row, unknown, type32, type64, typeOf, relocationKindNumber, kindOfNumber, kind-back}
+use Rattle.kinds.specs.Types.{row, minus, unknown, type32, type64, typeOf, relocationKindNumber, kindOfNumber, kind-back}
 
--- row i of a table
-abbrev pub rowOf : List (List ℕ) → ℕ → RelocationType
-rowOf table i = row (kindOfNumber (getD (getD table i []) 0 0)) (getD (getD table i []) 1 0) (getD (getD table i []) 2 0)
+-- ---- a row: a byte of three octal digits
+-- a distance is counted from n bytes behind its field of four (PE/COFF, REL32 and REL32_1 to REL32_5); the other kinds have no addend
+abbrev pub addendOf : RelocationKind → ℕ → ℕ
+addendOf Absolute n = 0
+addendOf ImageOffset n = 0
+addendOf SectionOffset n = 0
+addendOf Relative n = minus (4 + n)
+addendOf NotCarried n = 0
+addendOf Unknown n = 0
 
--- type t by a table; past the last row it is unknown
-unfoldable pub typeIn : List (List ℕ) → ℕ → RelocationType
-typeIn rows t = pick (ltb t (length rows)) (rowOf rows t) unknown
+-- the first digit is the field's length in words of 32 bits, the second this n, the third the kind's number
+unfoldable pub unpacked : ℕ → RelocationType
+unpacked b = row (kindOfNumber (b % 8)) (b / 64 * 32) (addendOf (kindOfNumber (b % 8)) (b / 8 % 8))
 
--- ---- the code's tables: the kind's number, the bits and the addend
+-- row t of a table; past the last it is that of an unknown type
+unfoldable pub rowIn : List ℕ → ℕ → ℕ
+rowIn rows t = getD rows t 0o005
+
+-- ---- the code's tables
 -- of i386
-abbrev pub table32 : List (List ℕ)
+abbrev pub table32 : List ℕ
 table32 =
-    (5 ∷ 0 ∷ 0 ∷ [])
-    ∷ (4 ∷ 0 ∷ 0 ∷ [])
-    ∷ (4 ∷ 0 ∷ 0 ∷ [])
-    ∷ (5 ∷ 0 ∷ 0 ∷ [])
-    ∷ (5 ∷ 0 ∷ 0 ∷ [])
-    ∷ (5 ∷ 0 ∷ 0 ∷ [])
-    ∷ (0 ∷ 32 ∷ 0 ∷ [])
-    ∷ (1 ∷ 32 ∷ 0 ∷ [])
-    ∷ (5 ∷ 0 ∷ 0 ∷ [])
-    ∷ (5 ∷ 0 ∷ 0 ∷ [])
-    ∷ (4 ∷ 0 ∷ 0 ∷ [])
-    ∷ (2 ∷ 32 ∷ 0 ∷ [])
-    ∷ (5 ∷ 0 ∷ 0 ∷ [])
-    ∷ (4 ∷ 0 ∷ 0 ∷ [])
-    ∷ (5 ∷ 0 ∷ 0 ∷ [])
-    ∷ (5 ∷ 0 ∷ 0 ∷ [])
-    ∷ (5 ∷ 0 ∷ 0 ∷ [])
-    ∷ (5 ∷ 0 ∷ 0 ∷ [])
-    ∷ (5 ∷ 0 ∷ 0 ∷ [])
-    ∷ (5 ∷ 0 ∷ 0 ∷ [])
-    ∷ (3 ∷ 32 ∷ 18446744073709551612 ∷ [])
-    ∷ []
+    0o005 ∷ 0o004 ∷ 0o004 ∷ 0o005 ∷ 0o005 ∷ 0o005 ∷ 0o100 ∷ 0o101 ∷ 0o005 ∷ 0o005 ∷ 0o004 ∷ 0o102 ∷ 0o005 ∷ 0o004 ∷ 0o005 ∷ 0o005 ∷ 0o005 ∷ 0o005 ∷ 0o005 ∷ 0o005 ∷ 0o103 ∷ []
 
 -- of x64
-abbrev pub table64 : List (List ℕ)
+abbrev pub table64 : List ℕ
 table64 =
-    (5 ∷ 0 ∷ 0 ∷ [])
-    ∷ (0 ∷ 64 ∷ 0 ∷ [])
-    ∷ (0 ∷ 32 ∷ 0 ∷ [])
-    ∷ (1 ∷ 32 ∷ 0 ∷ [])
-    ∷ (3 ∷ 32 ∷ 18446744073709551612 ∷ [])
-    ∷ (3 ∷ 32 ∷ 18446744073709551611 ∷ [])
-    ∷ (3 ∷ 32 ∷ 18446744073709551610 ∷ [])
-    ∷ (3 ∷ 32 ∷ 18446744073709551609 ∷ [])
-    ∷ (3 ∷ 32 ∷ 18446744073709551608 ∷ [])
-    ∷ (3 ∷ 32 ∷ 18446744073709551607 ∷ [])
-    ∷ (4 ∷ 0 ∷ 0 ∷ [])
-    ∷ (2 ∷ 32 ∷ 0 ∷ [])
-    ∷ (4 ∷ 0 ∷ 0 ∷ [])
-    ∷ []
+    0o005 ∷ 0o200 ∷ 0o100 ∷ 0o101 ∷ 0o103 ∷ 0o113 ∷ 0o123 ∷ 0o133 ∷ 0o143 ∷ 0o153 ∷ 0o004 ∷ 0o102 ∷ 0o004 ∷ []
 
 -- of a machine
-unfoldable pub rowsOf : Arch → List (List ℕ)
+unfoldable pub rowsOf : Arch → List ℕ
 rowsOf X32 = table32
 rowsOf X64 = table64
 
+-- both together take 64 bytes at most (02, N4)
+pub rows-small : length (rowsOf X32) + length (rowsOf X64) ≤ 64
+unfolding rowsOf
+rows-small = lit≤ tt
+
 -- ---- each says what the definition says
 -- of one row
-unfoldable right : List (List ℕ) → (ℕ → RelocationType) → ℕ → Bool
+unfoldable right : List ℕ → (ℕ → RelocationType) → ℕ → Bool
 right table type i =
-    eqb (getD (getD table i []) 0 0) (relocationKindNumber (type i .kind))
-    && (eqb (getD (getD table i []) 1 0) (type i .bits) && eqb (getD (getD table i []) 2 0) (type i .addend))
+    let t = unpacked (rowIn table i) in
+    eqb (relocationKindNumber (t .kind)) (relocationKindNumber (type i .kind)) && (eqb (t .bits) (type i .bits) && eqb (t .addend) (type i .addend))
 
-row-right : (table : List (List ℕ)) (type : ℕ → RelocationType) (i : ℕ) → right table type i ≡ true → rowOf table i ≡ type i
+-- two types whose kinds have one number, whose bits and whose addends are alike are one
+same-type : (x y : RelocationType) → relocationKindNumber (x .kind) ≡ relocationKindNumber (y .kind) → x .bits ≡ y .bits → x .addend ≡ y .addend → x ≡ y
+same-type x y k b a = rw (← kind-back (x .kind), k, kind-back (y .kind), b, a)
+
+row-right : (table : List ℕ) (type : ℕ → RelocationType) (i : ℕ) → right table type i ≡ true → unpacked (rowIn table i) ≡ type i
 unfolding right
 row-right table type i e =
-    let k = eqb (getD (getD table i []) 0 0) (relocationKindNumber (type i .kind)) in
-    let b = eqb (getD (getD table i []) 1 0) (type i .bits) in
-    let a = eqb (getD (getD table i []) 2 0) (type i .addend) in
+    let t = unpacked (rowIn table i) in
+    let k = eqb (relocationKindNumber (t .kind)) (relocationKindNumber (type i .kind)) in
+    let b = eqb (t .bits) (type i .bits) in
+    let a = eqb (t .addend) (type i .addend) in
     let r : b && a ≡ true = and-right k (b && a) e in
-    let p : getD (getD table i []) 0 0 ≡ relocationKindNumber (type i .kind) = eqb-true _ _ (and-left k (b && a) e) in
-    let q : getD (getD table i []) 1 0 ≡ type i .bits = eqb-true _ _ (and-left b a r) in
-    let s : getD (getD table i []) 2 0 ≡ type i .addend = eqb-true _ _ (and-right b a r) in
-    rw (p, q, s, kind-back (type i .kind))
+    same-type t (type i) (eqb-true _ _ (and-left k (b && a) e)) (eqb-true _ _ (and-left b a r)) (eqb-true _ _ (and-right b a r))
 
-in-right : (table : List (List ℕ)) (type : ℕ → RelocationType) (t : ℕ) → allTo (right table type) (length table) ≡ true → (length table ≤ t → unknown ≡ type t) → typeIn table t ≡ type t
-unfolding typeIn pick
-in-right table type t e past =
-    ⊎-elim (λ h. rw (le-ltb t (length table) h) (past h)) (λ h. rw (lt-ltb t (length table) h) (row-right table type t (all-at (right table type) (length table) t e h)))
-    (le-or-lt (length table) t)
+past-row : (table : List ℕ) (t : ℕ) → length table ≤ t → unpacked (rowIn table t) ≡ unknown
+unfolding rowIn unpacked kindOfNumber pick
+past-row table t h = rw (List·getD-eq-default table 0o005 h)
+
+table-right : (table : List ℕ) (type : ℕ → RelocationType) (t : ℕ) → allTo (right table type) (length table) ≡ true → (length table ≤ t → unknown ≡ type t) → unpacked (rowIn table t) ≡ type t
+table-right table type t e past =
+    ⊎-elim (λ h. past-row table t h ∙ past h) (λ h. row-right table type t (all-at (right table type) (length table) t e h)) (le-or-lt (length table) t)
 
 -- past the last row
 past32 : (t : ℕ) → 21 ≤ t → unknown ≡ type32 t
@@ -127,18 +114,19 @@ past64 t h =
       ne-eqb t 0xC (λ e. omega arith),
     )
 
-type-in-32 : (t : ℕ) → typeIn table32 t ≡ type32 t
-unfolding allTo right type32 pick
-type-in-32 t = in-right table32 type32 t refl (past32 t)
+row-type-32 : (t : ℕ) → unpacked (rowIn table32 t) ≡ type32 t
+unfolding allTo right unpacked kindOfNumber rowIn type32 pick
+row-type-32 t = table-right table32 type32 t refl (past32 t)
 
-type-in-64 : (t : ℕ) → typeIn table64 t ≡ type64 t
-unfolding allTo right type64 pick
-type-in-64 t = in-right table64 type64 t refl (past64 t)
+row-type-64 : (t : ℕ) → unpacked (rowIn table64 t) ≡ type64 t
+unfolding allTo right unpacked kindOfNumber rowIn type64 pick
+row-type-64 t = table-right table64 type64 t refl (past64 t)
 
-pub type-in : (a : Arch) (t : ℕ) → typeIn (rowsOf a) t ≡ typeOf a t
+-- every type of both machines
+pub row-type : (a : Arch) (t : ℕ) → unpacked (rowIn (rowsOf a) t) ≡ typeOf a t
 unfolding rowsOf typeOf
-type-in X32 t = type-in-32 t
-type-in X64 t = type-in-64 t
+row-type X32 t = row-type-32 t
+row-type X64 t = row-type-64 t
 
 -- ---- as the code asks: the table of a machine is lent, and a row of it is a type
 module _ (a : Arch) where
@@ -150,7 +138,10 @@ module _ (a : Arch) where
   unfolding rowsOf
   rows-x64 e = rw e
 
-  pub type-by-rows : (rows : List (List ℕ)) (t : ℕ) (x : RelocationType) → x ≡ typeIn rows t → rows ≡ rowsOf a → x ≡ typeOf a t
-  type-by-rows rows t x e q = e ∙ ap (λ (l : List (List ℕ)). typeIn l t) q ∙ type-in a t
+  pub row-by-rows : (rows : List ℕ) (t b : ℕ) → b ≡ rowIn rows t → rows ≡ rowsOf a → unpacked b ≡ typeOf a t
+  row-by-rows rows t b e q = ap unpacked (e ∙ ap (λ (l : List ℕ). rowIn l t) q) ∙ row-type a t
+
+  pub type-by-rows : (rows : List ℕ) (t b : ℕ) (x : RelocationType) → x ≡ unpacked b → b ≡ rowIn rows t → rows ≡ rowsOf a → x ≡ typeOf a t
+  type-by-rows rows t b x z e q = z ∙ row-by-rows rows t b e q
 
 pub ruleset by-table = (rows-x32, rows-x64, type-by-rows)

@@ -14,8 +14,9 @@ pub use symbol_kinds::listed_by;
 pub use symbol_kinds::place_by;
 pub use types::X32_TYPES;
 pub use types::X64_TYPES;
-pub use types::type_in;
+pub use types::row_in;
 pub use types::type_of;
+pub use types::unpack;
 
 // What a symbol is: of a class that is not known, code, data, a section, a source file or a label.
 pub enum SymbolKind {

@@ -106,7 +106,7 @@ fn put_outcome(
 // to be compiled into its loop.
 fn outcome_of(
     arch: Arch,
-    types: &[[u64; 3]],
+    types: &[u8],
     f: &[u8],
     records: Records,
     word: u32,
@@ -120,13 +120,13 @@ fn outcome_of(
 {
     let r = object::read_relocation(f, records, k);
     let target = targets::target_in(homes, undef, codes, r.symbol);
-    fixups::outcome_at(word, r.address, kinds::type_in(types, r.typ), target)
+    fixups::outcome_at(word, r.address, kinds::row_in(types, r.typ), target)
 }
 
 // The records of section i, one by one.
 fn write_section(
     arch: Arch,
-    types: &[[u64; 3]],
+    types: &[u8],
     f: &[u8],
     h: Header,
     homes: &[u32],
@@ -161,7 +161,7 @@ fn write_section(
 // The records of section i: without a home all are passed, and none is read.
 fn write_next(
     arch: Arch,
-    types: &[[u64; 3]],
+    types: &[u8],
     f: &[u8],
     h: Header,
     homes: &[u32],
@@ -203,7 +203,7 @@ fn write_next(
 // The sections one by one.
 fn write_with(
     arch: Arch,
-    types: &[[u64; 3]],
+    types: &[u8],
     f: &[u8],
     h: Header,
     homes: &[u32],

@@ -1,6 +1,6 @@
 use borrow.Author.Needs.{needs}
 use Rattle.fixups.specs.Outcome.{by-record}
-use Rattle.kinds.specs.Rows.{type-by-rows}
+use Rattle.kinds.specs.Rows.{row-by-rows}
 use Rattle.fixups.proofs.tallies.outcome_of.Statement.{statement}
 use Rattle.fixups.proofs.tallies.outcome_of.Tie as tie
 
@@ -8,8 +8,8 @@ pub outcome-of-spec : {M : Type 1} → statement M
 outcome-of-spec =
     tie.close
     (tie.spec
-    (λ c. search (needs, by-record, type-by-rows))
-    (λ c. search (needs, by-record, type-by-rows))
-    (λ c. search (needs, by-record, type-by-rows))
-    (λ c. search (needs, by-record, type-by-rows))
-    (λ c. search (needs, by-record, type-by-rows)))
+    (λ c. search (needs, by-record, row-by-rows))
+    (λ c. search (needs, by-record, row-by-rows))
+    (λ c. search (needs, by-record, row-by-rows))
+    (λ c. search (needs, by-record, row-by-rows))
+    (λ c. search (needs, by-record, row-by-rows)))

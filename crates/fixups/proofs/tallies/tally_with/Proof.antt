@@ -30,7 +30,7 @@ tally-with-spec =
     (λ c κs. search (needs, rows-loop, homeless))
     (λ c. search (needs, rows-loop))
     (λ c. search (needs, rows-loop, homeless))
-    (λ c. (search needs, passed-again _ _ _ (c .before .before .before .before .before .before .before .before .before .before .args .homes .now) (targetIn (c .before .before .before .before .before .before .before .before .before .before .args .homes .now) (c .before .before .before .before .before .before .before .before .before .before .args .undef) (c .before .before .before .before .before .before .before .before .before .before .args .codes .now)) _ _ _ _ _ _ (c .before .before .before .before .before .loop .inv .1) (c .before .before .before .word-at .ensures) (c .before .before .if1 .taken) (c .before .relocation-count .ensures) (search needs) (c .with-passed .ensures) (c .before .before .before .before .before .loop .inv .2), search (needs, passed-near)))
+    (λ c. (search needs, passed-again _ _ _ (c .before .before .before .before .before .before .before .before .before .before .before .args .homes .now) (targetIn (c .before .before .before .before .before .before .before .before .before .before .before .args .homes .now) (c .before .before .before .before .before .before .before .before .before .before .before .args .undef) (c .before .before .before .before .before .before .before .before .before .before .before .args .codes .now)) _ _ _ _ _ _ (c .before .before .before .before .before .loop .inv .1) (c .before .before .before .word-at .ensures) (c .before .before .if1 .taken) (c .before .relocation-count .ensures) (search needs) (c .with-passed .ensures) (c .before .before .before .before .before .loop .inv .2), search (needs, passed-near)))
     (λ c κs. search (needs, rows-loop))
     (λ c. search (needs, rows-loop))
     (λ c. search (needs, rows-loop))

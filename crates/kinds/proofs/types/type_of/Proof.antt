@@ -7,11 +7,13 @@ pub type-of-spec : {M : Type 1} → statement M
 type-of-spec =
     tie.close
     (tie.spec
-    (λ c. search (needs, by-table))
-    (λ c. search (needs, by-table))
-    (λ c. search (needs, by-table))
-    (λ c. search (needs, by-table))
-    (λ c. search (needs, by-table))
-    (λ c. search (needs, by-table))
+    (λ c. search needs)
+    (λ c. search needs)
+    (λ c κs. search needs)
+    (λ c κs. search needs)
+    (λ c. search needs)
+    (λ c. search needs)
+    (λ c κs. search needs)
+    (λ c κs. search needs)
     (λ c. search (needs, by-table))
     (λ c. search (needs, by-table)))
