@@ -42,7 +42,9 @@ use Rattle.kinds.specs.Flags.{loadedBy, alignOf, permissionsBy}
 use Rattle.object.specs.Symbol.{okAt, leftAfter, auxiliariesLeft, primary, isSymbol}
 use Rattle.kinds.specs.Symbol.{isFunction, codeOrData, staticKind, kindBy, zeroPlace, placeBy, listedBy}
 use Rattle.words.specs.Picked.{chosen}
-use Rattle.names.specs.Bytes.{run, upToZero, goodSectionName, goodSymbolName, decimalTo, compareBytes, sameBytes}
+use Rattle.utf8.specs.Utf8.{longRows, begins, lengthIn, octets}
+use Rattle.chars.specs.Chars.{goodSectionName, goodSymbolName}
+use Rattle.names.specs.Bytes.{run, upToZero, decimalTo, compareBytes, sameBytes}
 use Rattle.names.specs.Name.{nameBytes, longRun, symbolRun, slashRun, sectionRun, checked, leftFrom, longSpan, spanAt}
 use Rattle.arch.specs.declared.Offset.the-variants.{At}
 use Rattle.ranks.specs.Named.{firstIn, loadedNamed}
@@ -206,7 +208,7 @@ more-sections f s m e = rw (s, m, no-table f (headerOf f) e)
 pub table : Table
 unfolding roundUp pick allTo anyTo sumTo countTo listTo archOf get le part headerOf stringLength type32 type64 typeOf loadedBy alignOf permissionsBy fileStart fileEnd
     rangeLength extended relocationRecords relocationCount relocationStart isFunction codeOrData staticKind kindBy zeroPlace placeBy listedBy primary
-    run upToZero goodSectionName goodSymbolName decimalTo compareBytes sameBytes nameBytes longRun symbolRun slashRun sectionRun checked leftFrom longSpan spanAt firstIn
+    longRows begins lengthIn octets run upToZero goodSectionName goodSymbolName decimalTo compareBytes sameBytes nameBytes longRun symbolRun slashRun sectionRun checked leftFrom longSpan spanAt firstIn
     loadedNamed recordStart homeRecord sectionHome startOf byNumber nextStart startAt sizeOk sectionTableOk stringsOk symbolTableOk bytesOk dataOk relocationsOk sectionsOk
     okAt namesOk insertName externStep putsBy puts slotFrom appendStep fixAtRecord skipAtRecord byKind resolved outcomeAt outcome relocationIn ruleTarget targetOf
     countStep tallyOf homeTarget slotTarget namedTarget valueOf ofPlace offsetFrom listed firstFailed countsBy answerBy
@@ -253,7 +255,7 @@ small-demand-3 calls = demand-3 smallObject smallCounts (table .small) 0 0x7F000
 pub small-patched : getD (imageAfter 0x20000000 (lentOf smallObject 0x20000000) (patch 1 0 ∷ [])) 1 0 ≡ 0xFB
 unfolding roundUp pick allTo anyTo sumTo countTo listTo archOf get le part headerOf stringLength type32 type64 typeOf loadedBy alignOf permissionsBy fileStart fileEnd
     rangeLength extended relocationRecords relocationCount relocationStart isFunction codeOrData staticKind kindBy zeroPlace placeBy listedBy primary
-    run upToZero goodSectionName goodSymbolName decimalTo compareBytes sameBytes nameBytes longRun symbolRun slashRun sectionRun checked leftFrom longSpan spanAt firstIn
+    longRows begins lengthIn octets run upToZero goodSectionName goodSymbolName decimalTo compareBytes sameBytes nameBytes longRun symbolRun slashRun sectionRun checked leftFrom longSpan spanAt firstIn
     loadedNamed recordStart homeRecord sectionHome startOf byNumber nextStart startAt sizeOk sectionTableOk stringsOk symbolTableOk bytesOk dataOk relocationsOk sectionsOk
     okAt namesOk insertName externStep putsBy puts slotFrom appendStep fixAtRecord skipAtRecord byKind resolved outcomeAt outcome relocationIn ruleTarget targetOf
     countStep tallyOf homeTarget slotTarget namedTarget valueOf ofPlace offsetFrom listed firstFailed countsBy answerBy
@@ -274,7 +276,7 @@ pub record TwoUninitialized : Type 0 where
 pub two-uninitialized : TwoUninitialized
 unfolding roundUp pick allTo anyTo sumTo countTo listTo archOf get le part headerOf stringLength type32 type64 typeOf loadedBy alignOf permissionsBy fileStart fileEnd
     rangeLength extended relocationRecords relocationCount relocationStart isFunction codeOrData staticKind kindBy zeroPlace placeBy listedBy primary
-    run upToZero goodSectionName goodSymbolName decimalTo compareBytes sameBytes nameBytes longRun symbolRun slashRun sectionRun checked leftFrom longSpan spanAt firstIn
+    longRows begins lengthIn octets run upToZero goodSectionName goodSymbolName decimalTo compareBytes sameBytes nameBytes longRun symbolRun slashRun sectionRun checked leftFrom longSpan spanAt firstIn
     loadedNamed recordStart homeRecord sectionHome startOf byNumber nextStart startAt sizeOk sectionTableOk stringsOk symbolTableOk bytesOk dataOk relocationsOk sectionsOk
     okAt namesOk insertName externStep putsBy puts slotFrom appendStep fixAtRecord skipAtRecord byKind resolved outcomeAt outcome relocationIn ruleTarget targetOf
     countStep tallyOf homeTarget slotTarget namedTarget valueOf ofPlace offsetFrom listed firstFailed countsBy answerBy

@@ -20,7 +20,8 @@ use Rattle.object.specs.declared.Header.{Header}
 use Rattle.object.specs.Format.{HEADER-SIZE, stringLength}
 use Rattle.object.specs.Section.{loaded, rangeLength}
 use Rattle.object.specs.Symbol.{okAt}
-use Rattle.names.specs.Bytes.{run, goodSectionName}
+use Rattle.chars.specs.Chars.{goodSectionName}
+use Rattle.names.specs.Bytes.{run}
 use Rattle.names.specs.Name.{sectionRun, checked}
 use Rattle.layout.specs.Layout.{nextStart, startAt, undefStart, mappedPages}
 use Rattle.homes.specs.Home.{sectionHome}

@@ -16,7 +16,9 @@ use Rattle.object.specs.declared.Header.{Header}
 use Rattle.object.specs.Format.{symbolRecordAt}
 use Rattle.names.specs.declared.Order.the-variants.{Less, Greater}
 use Rattle.names.specs.declared.Name.the-variants.{Good}
-use Rattle.names.specs.Bytes.{run, upToZero, goodSymbolName, compareBytes}
+use Rattle.chars.specs.Chars.{goodSectionName, goodSymbolName}
+use Rattle.chars.specs.GoodLaws.{visible-good}
+use Rattle.names.specs.Bytes.{run, upToZero, compareBytes}
 use Rattle.names.specs.Name.{symbolRun, checked, spanAt, symbolText, symbolName}
 use Rattle.names.specs.NameLaws.{run-long, text-run}
 use Rattle.names.specs.OrderLaws.{less-greater}
@@ -38,14 +40,15 @@ texts-rise j k h =
 
 -- each is a good symbol name
 text-good : (k : ℕ) → k < MAX-NAMES → goodSymbolName (nameText k) ≡ true
-unfolding goodSymbolName allTo
+unfolding goodSectionName allTo
 text-good k h =
-    rw (
+    visible-good (nameText k) (omega arith)
+    (rw (
       le-leb 0x21 (0x30 + k / 64) (omega arith),
       le-leb (0x30 + k / 64) 0x7E (omega arith),
       le-leb 0x21 (0x30 + k % 64) (omega arith),
       le-leb (0x30 + k % 64) 0x7E (omega arith),
-    )
+    ))
 
 -- and what its field says
 field-text : (k : ℕ) → upToZero (nameField k) ≡ nameText k

@@ -1,6 +1,6 @@
 -- The loops over bytes, and the ways through the name readers. Assumes nothing.
 use mathlib.Core.Path.{_≡_, refl, sym, ap, _∙_}
-use mathlib.Core.Bool.{Bool, true, false, and-false, _&&_, not}
+use mathlib.Core.Bool.{Bool, true, false, and-false}
 use mathlib.Core.List.{List, [], _∷_}
 use mathlib.Core.Logic.{⊎-elim}
 use Prim.Native.Nat.{ℕ, zero, suc, _+_, _-_, _*_, _^_, _≤_, _<_, min}
@@ -13,6 +13,7 @@ use lib.ListN.{length, getD, drop, drop-of-length-le, List·getD-eq-default}
 use lib.Seq.{drop-cons}
 use Rattle.util.specs.Pick.{pick, le-or-lt}
 use Rattle.le.specs.Le.{get, part, part-most}
+use Rattle.chars.specs.Chars.{goodSymbolName, goodSectionName}
 use Rattle.object.specs.declared.Header.{Header}
 use Rattle.object.specs.Format.{NAME-SIZE, LONG-OFFSET-AT, sectionHeaderAt, symbolRecordAt, stringTable, stringLength}
 use Rattle.names.specs.declared.Order.{Order}
@@ -20,7 +21,7 @@ use Rattle.names.specs.declared.Order.the-variants.{Less, Equal, Greater
 use Rattle.names.specs.declared.Span.{Span}
 use Rattle.names.specs.declared.Name.{Name}
 use Rattle.names.specs.declared.Name.the-variants.{Good, Bad}
-use Rattle.names.specs.Bytes.{run, goodSymbolName, goodSectionName, allVisible, allDigits, decimal, decimalTo, compareBytes, sameBytes, UNDEF}
+use Rattle.names.specs.Bytes.{run, allDigits, decimal, decimalTo, compareBytes, sameBytes, UNDEF}
 use Rattle.names.specs.declared.Digits.{Digits}
 use Rattle.names.specs.declared.Digits.the-variants as digits
 use Rattle.names.specs.Name.{longRun, symbolRun, SLASH, slashOffset, slashBy, slashRun, sectionRun, checked, nameBytes, leftFrom, longSpan, spanAt, symbolSpan, noSpan, slashSpan, sectionSpanAt, sectionSpan, spanText, isGood}
@@ -59,10 +60,6 @@ module _ (f : List ℕ) (at n : ℕ) where
         (le-or-lt n k)
 
 pub ruleset run-loop = (run-none, run-zero, run-more, run-end)
-
-pub good-is : (s : List ℕ) {r v : Bool} → r ≡ (not (eqb (length s) 0) && v) → v ≡ allVisible s → r ≡ goodSymbolName s
-unfolding goodSymbolName
-good-is s e q = rw (← q) e
 
 -- ---- decimal
 module _ (s : List ℕ) (k : ℕ) where

@@ -1,5 +1,5 @@
--- Bytes as text: where a run ends, what a name may hold, decimal digits, and the order of two names (01, "Records").
-use mathlib.Core.Bool.{Bool, true, false, _&&_, not}
+-- Bytes as text: where a run ends, decimal digits, and the order of two names (01, "Records").
+use mathlib.Core.Bool.{Bool, true, false, _&&_}
 use mathlib.Core.List.{List, [], _∷_}
 use Prim.Native.Nat.{ℕ, zero, suc, _+_, _-_, _*_}
 use lib.ListN.{length, getD}
@@ -18,22 +18,6 @@ run f i (suc n) = pick (eqb (getD f i 0) 0) 0 (suc (run f (i + 1) n))
 unfoldable pub upToZero : List ℕ → List ℕ
 upToZero [] = []
 upToZero (x ∷ xs) = pick (eqb x 0) [] (x ∷ upToZero xs)
-
--- a byte of a name: 0x21 to 0x7E
-abbrev pub visible : ℕ → Bool
-visible b = leb 0x21 b && leb b 0x7E
-
--- each of them is such a byte
-abbrev pub allVisible : List ℕ → Bool
-allVisible s = allTo (λ k. visible (getD s k 0)) (length s)
-
--- the rule for a section's name, on its bytes: it may be empty
-unfoldable pub goodSectionName : List ℕ → Bool
-goodSectionName s = allVisible s
-
--- for a symbol's: it may not
-unfoldable pub goodSymbolName : List ℕ → Bool
-goodSymbolName s = not (eqb (length s) 0) && allVisible s
 
 -- ---- decimal digits
 abbrev pub isDigit : ℕ → Bool

@@ -7,6 +7,7 @@ use lib.Dec.{ltb, leb, eqb}
 use Rattle.refusal.specs.Refusal.{NAME}
 use Rattle.util.specs.Pick.{pick}
 use Rattle.le.specs.Le.{get, part}
+use Rattle.chars.specs.Chars.{goodSectionName, goodSymbolName}
 use Rattle.object.specs.declared.Header.{Header}
 use Rattle.object.specs.Format.{NAME-SIZE, LONG-OFFSET-AT, LENGTH-SIZE, sectionHeaderAt, symbolRecordAt, stringTable, stringLength}
 use Rattle.names.specs.declared.Name.{Name}
@@ -14,7 +15,7 @@ use Rattle.names.specs.declared.Name.the-variants.{Good, Bad}
 use Rattle.names.specs.declared.Span.{Span}
 use Rattle.names.specs.declared.Digits.{Digits}
 use Rattle.names.specs.declared.Digits.the-variants as digits
-use Rattle.names.specs.Bytes.{run, upToZero, goodSectionName, goodSymbolName, allDigits, decimal}
+use Rattle.names.specs.Bytes.{run, upToZero, allDigits, decimal}
 
 -- the bytes of a name: that part of the file; of a bad one none
 unfoldable pub nameBytes : List ℕ → Name → List ℕ

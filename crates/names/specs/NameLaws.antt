@@ -11,15 +11,18 @@ use lib.Dec.{ltb, leb, eqb}
 use lib.ListN.{length, getD, take, drop, drop-of-length-le, List·getD-eq-default}
 use lib.Seq.{drop-cons, take-nil}
 use native.Mathlib.Numerals.{add-one}
-use borrow.Author.Tests.{leb-true, ltb-true, lt-ltb, eqb-true, eqb-false, eq-eqb, not-true}
+use borrow.Author.Tests.{leb-true, ltb-true, lt-ltb, eqb-true, eqb-false, eq-eqb}
 use Rattle.util.specs.Pick.{pick, yes-no, le-or-lt, and-left, and-right}
-use Rattle.util.specs.Prefix.{all-at}
 use Rattle.le.specs.Le.{get, part, IsBytes, length-part, part-none}
+use Rattle.utf8.specs.Utf8.{wellFormed}
+use Rattle.chars.specs.Chars.{goodSectionName, goodSymbolName}
+use Rattle.chars.specs.WalkLaws.{Visible}
+use Rattle.chars.specs.GoodLaws.{Allowed, good-visible, good-some, good-allowed, good-well-formed}
 use Rattle.object.specs.declared.Header.{Header}
 use Rattle.object.specs.Format.{NAME-SIZE, LONG-OFFSET-AT, sectionHeaderAt, symbolRecordAt, stringTable, stringLength}
 use Rattle.names.specs.declared.Name.{Name}
 use Rattle.names.specs.declared.Name.the-variants.{Good, Bad}
-use Rattle.names.specs.Bytes.{run, upToZero, visible, allVisible, goodSectionName, goodSymbolName, allDigits, decimal, sameBytes, UNDEF}
+use Rattle.names.specs.Bytes.{run, upToZero, allDigits, decimal, sameBytes, UNDEF}
 use Rattle.names.specs.declared.Digits.{Digits}
 use Rattle.names.specs.declared.Digits.the-variants as digits
 use Rattle.names.specs.Name.{nameBytes, shortRun, longRun, symbolRun, slashRun, slashOffset, slashBy, slashDigits, sectionRun, checked, sectionNameAt, symbolNameAt, sectionName, symbolName, SLASH, leftFrom, longSpan, spanAt, noSpan, slashSpan, sectionSpanAt, spanText, symbolText, sectionText, nameRefusal, digitsRefusal}
@@ -109,49 +112,33 @@ checked-is good f Bad at n e = cc
 checked-is good f (Good a b) at n e = taken-is (good (part f a b)) (Good a b) at n e
 
 -- ---- its bytes
--- a byte that a name may have
-pub record Visible (b : ℕ) : Type 0 where
-  pub low : 0x21 ≤ b
-  pub high : b ≤ 0x7E
-
-visible-byte : (b : ℕ) → visible b ≡ true → Visible b
-visible-byte b e =
-    record {
-      low = leb-true 0x21 b (and-left (leb 0x21 b) (leb b 0x7E) e);
-      high = leb-true b 0x7E (and-right (leb 0x21 b) (leb b 0x7E) e);
-    }
-
-module _ (good : List ℕ → Bool) (rule : (s : List ℕ) → good s ≡ true → allVisible s ≡ true) (f : List ℕ) (k : ℕ) where
-  bytes-visible : (m c : Name) → checked good f m ≡ c → k < length (nameBytes f c) → Visible (getD (nameBytes f c) k 0)
+module _ (good : List ℕ → Bool) (P : ℕ → Type 0) (rule : (s : List ℕ) → good s ≡ true → (k : ℕ) → k < length s → P (getD s k 0)) (f : List ℕ) (k : ℕ) where
+  bytes-are : (m c : Name) → checked good f m ≡ c → k < length (nameBytes f c) → P (getD (nameBytes f c) k 0)
   unfolding nameBytes
-  bytes-visible m Bad e h = absurd (omega arith)
-  bytes-visible m (Good at n) e h =
-      visible-byte (getD (part f at n) k 0)
-      (all-at (λ i. visible (getD (part f at n) i 0)) (length (part f at n)) k (rule (part f at n) (checked-good good f m at n e)) h)
-
-section-rule : (s : List ℕ) → goodSectionName s ≡ true → allVisible s ≡ true
-unfolding goodSectionName
-section-rule s e = e
-
-symbol-rule : (s : List ℕ) → goodSymbolName s ≡ true → allVisible s ≡ true
-unfolding goodSymbolName
-symbol-rule s e = and-right (not (eqb (length s) 0)) (allVisible s) e
+  bytes-are m Bad e h = absurd (omega arith)
+  bytes-are m (Good at n) e h = rule (part f at n) (checked-good good f m at n e) k h
 
 -- every byte of a section's name is 0x21 to 0x7E
 pub section-name-visible : (f : List ℕ) (h : Header) (i k : ℕ) → k < length (nameBytes f (sectionName f h i)) → Visible (getD (nameBytes f (sectionName f h i)) k 0)
-section-name-visible f h i k l = bytes-visible goodSectionName section-rule f k (sectionRun f h (sectionHeaderAt h i)) (sectionName f h i) refl l
+section-name-visible f h i k l = bytes-are goodSectionName Visible good-visible f k (sectionRun f h (sectionHeaderAt h i)) (sectionName f h i) refl l
 
--- every byte of a symbol's name is 0x21 to 0x7E
-pub symbol-name-visible : (f : List ℕ) (h : Header) (j k : ℕ) → k < length (nameBytes f (symbolName f h j)) → Visible (getD (nameBytes f (symbolName f h j)) k 0)
-symbol-name-visible f h j k l = bytes-visible goodSymbolName symbol-rule f k (symbolRun f h (symbolRecordAt h j)) (symbolName f h j) refl l
+-- no byte of a symbol's is below 0x21, and none 0x7F
+pub symbol-name-allowed : (f : List ℕ) (h : Header) (j k : ℕ) → k < length (nameBytes f (symbolName f h j)) → Allowed (getD (nameBytes f (symbolName f h j)) k 0)
+symbol-name-allowed f h j k l = bytes-are goodSymbolName Allowed good-allowed f k (symbolRun f h (symbolRecordAt h j)) (symbolName f h j) refl l
 
--- a symbol's good name is not empty
-pub symbol-name-some : (f : List ℕ) (h : Header) (j at n : ℕ) → symbolName f h j ≡ Good at n → 0 < length (nameBytes f (Good at n))
-unfolding nameBytes goodSymbolName
-symbol-name-some f h j at n e =
-    let g = checked-good goodSymbolName f (symbolRun f h (symbolRecordAt h j)) at n e in
-    let z : length (part f at n) ≡ 0 → ⊥ = eqb-false _ _ (not-true _ (and-left (not (eqb (length (part f at n)) 0)) (allVisible (part f at n)) g)) in
-    omega arith
+module _ (f : List ℕ) (h : Header) (j at n : ℕ) (e : symbolName f h j ≡ Good at n) where
+  passed : goodSymbolName (part f at n) ≡ true
+  passed = checked-good goodSymbolName f (symbolRun f h (symbolRecordAt h j)) at n e
+
+  -- a symbol's good name is well-formed UTF-8
+  pub symbol-name-utf8 : wellFormed (nameBytes f (Good at n)) ≡ true
+  unfolding nameBytes
+  symbol-name-utf8 = good-well-formed (part f at n) passed
+
+  -- and is not empty
+  pub symbol-name-some : 0 < length (nameBytes f (Good at n))
+  unfolding nameBytes
+  symbol-name-some = good-some (part f at n) passed
 
 -- ---- where it stands
 -- in its field: at most eight bytes, and either all eight or a zero behind them

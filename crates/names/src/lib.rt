@@ -14,10 +14,7 @@ pub use place::slash_offset;
 pub use place::symbol_name;
 pub use place::symbol_span;
 pub use spelling::compare;
-pub use spelling::good_section_name;
-pub use spelling::good_symbol_name;
 pub use spelling::is_undef;
-pub use spelling::is_visible;
 pub use spelling::same;
 
 // Where a good name starts in the file, and how long it is.

@@ -4,15 +4,14 @@ use crate::Name;
 use crate::Span;
 use crate::spelling::all_digits;
 use crate::spelling::decimal;
-use crate::spelling::good_section_name;
-use crate::spelling::good_symbol_name;
 use crate::spelling::is_undef;
 use crate::spelling::run;
 use object::Header;
 ghost use mathlib.Core.Path.{_≡_};
 ghost use Prim.Native.Nat.{_<_, _^_, min};
 ghost use Rattle.object.specs.Format.{sectionHeaderAt};
-ghost use Rattle.names.specs.Bytes.{goodSectionName, goodSymbolName, sameBytes, UNDEF};
+ghost use Rattle.chars.specs.Chars.{goodSectionName, goodSymbolName};
+ghost use Rattle.names.specs.Bytes.{sameBytes, UNDEF};
 ghost use Rattle.names.specs.Name.{
   longRun,
   symbolRun,
@@ -129,7 +128,7 @@ fn checked_section(f: &[u8], name: Name) -> Name
 {
     match name {
         Name::Good(at, n) => {
-            if good_section_name(le::part(f, at, n)) {
+            if chars::good_section_name(le::part(f, at, n)) {
                 Name::Good(at, n)
             } else {
                 Name::Bad
@@ -144,7 +143,7 @@ fn checked_symbol(f: &[u8], name: Name) -> Name
 {
     match name {
         Name::Good(at, n) => {
-            if good_symbol_name(le::part(f, at, n)) {
+            if chars::good_symbol_name(le::part(f, at, n)) {
                 Name::Good(at, n)
             } else {
                 Name::Bad

@@ -5,10 +5,6 @@ ghost use Prim.Native.Nat.{_-_, _≤_, _<_};
 ghost use lib.ListN.{length};
 ghost use Rattle.names.specs.Bytes.{
   run,
-  visible,
-  allVisible,
-  goodSectionName,
-  goodSymbolName,
   isDigit,
   allDigits,
   decimal,
@@ -31,41 +27,6 @@ pub(crate) fn run(f: &[u8], at: usize, n: usize) -> usize
         k += 1;
     }
     k
-}
-
-// A byte that a name may have.
-pub fn is_visible(b: u8) -> bool
-    ensures { λ r. ⌜ r ≡ visible b ⌝ }
-{
-    util::both(0x21 <= b, b <= 0x7E)
-}
-
-fn all_visible(s: &[u8]) -> bool
-    ensures { λ r. ⌜ r ≡ allVisible (now (s .entry)) ⌝ }
-{
-    let n = s.len();
-    let mut k: usize = 0;
-    while k < n {
-        if !is_visible(s[k]) {
-            return false;
-        }
-        k += 1;
-    }
-    true
-}
-
-// The rule for a section's name, which may be empty.
-pub fn good_section_name(s: &[u8]) -> bool
-    ensures { λ r. ⌜ r ≡ goodSectionName (now (s .entry)) ⌝ }
-{
-    all_visible(s)
-}
-
-// The rule for a symbol's name, which may not.
-pub fn good_symbol_name(s: &[u8]) -> bool
-    ensures { λ r. ⌜ r ≡ goodSymbolName (now (s .entry)) ⌝ }
-{
-    util::both(s.len() != 0, all_visible(s))
 }
 
 fn is_digit(b: u8) -> bool

@@ -1,151 +1,100 @@
--- What a stop is, and that the words say it. Assumes nothing.
+-- That the words say where the characters stop. Assumes nothing.
 use mathlib.Core.Path.{_≡_, sym, ap, _∙_}
-use mathlib.Core.Bool.{true, false}
+use mathlib.Core.Bool.{Bool, true, false}
 use mathlib.Core.List.{List}
-use mathlib.Core.Logic.{⊎-elim}
+use mathlib.Core.Logic.{inr, ⊎-elim}
 use Prim.Native.Nat.{ℕ, zero, suc, _+_, _-_, _*_, _/_, _%_, _≤_, _<_}
 use native.Mathlib.Nat.{eq-or-lt-of-le}
 use native.Mathlib.Omega.{arith}
 use borrow.Author.Tests.{lt-ltb, le-ltb}
+use lib.Dec.{ltb}
 use lib.ListN.{length, getD, List·getD-eq-default}
 use Rattle.util.specs.Pick.{pick, yes-no, le-or-lt, not-both}
 use Rattle.util.specs.Prefix.{list-at, length-list}
-use Rattle.names.specs.Bytes.{visible}
-use Rattle.stops.specs.Stops.{stopIn, stop, BLOCK, stopWords, stopBehind, stopBy}
+use Rattle.utf8.specs.Utf8.{holds, TAIL}
+use Rattle.chars.specs.Chars.{walk, stop}
+use Rattle.chars.specs.WalkLaws.{tail-no-char, walk-off, walk-least, walk-within, walk-same, walk-over, stop-behind, stop-before}
+use Rattle.stops.specs.Stops.{skipTo, skip, TAILS, BLOCK, blockStop, stopWords, stopBehind, stopBy}
 
+-- ---- behind the tails
 module _ (t : List ℕ) where
-  -- s is where the visible bytes from o end
-  pub record Ends (o s : ℕ) : Type 0 where
-    pub behind : o ≤ s
-    pub seen : (k : ℕ) → o ≤ k → k < s → visible (getD t k 0) ≡ true
-    pub ends : visible (getD t s 0) ≡ false
+  pub skip-least : (n i : ℕ) → i ≤ skipTo t i n
+  unfolding skipTo pick
+  skip-least zero i = omega arith
+  skip-least (suc n) i = ⊎-elim (λ e. rw e (let r = skip-least n (i + 1) in omega arith)) (λ e. rw e (omega arith)) (yes-no (holds TAIL (getD t i 0)))
 
-  -- the bytes from i to r are visible, and r is not behind e
-  pub record VisibleTo (i e r : ℕ) : Type 0 where
-    pub behind : i ≤ r
-    pub before : r ≤ e
-    pub seen : (k : ℕ) → i ≤ k → k < r → visible (getD t k 0) ≡ true
+  pub skip-most : (n i : ℕ) → skipTo t i n ≤ i + n
+  unfolding skipTo pick
+  skip-most zero i = omega arith
+  skip-most (suc n) i = ⊎-elim (λ e. rw e (let r = skip-most n (i + 1) in omega arith)) (λ e. rw e (omega arith)) (yes-no (holds TAIL (getD t i 0)))
 
-  -- the stop is the same from behind them
-  pub stop-visible : (d i n : ℕ) → d ≤ n → ((k : ℕ) → i ≤ k → k < i + d → visible (getD t k 0) ≡ true) → stopIn t (i + d) (n - d) ≡ stopIn t i n
-  unfolding stopIn pick
-  stop-visible zero i n l v = let e : i + 0 ≡ i = omega arith in let d : n - 0 ≡ n = omega arith in rw (e, d)
-  stop-visible (suc d) i zero l v = absurd (omega arith)
-  stop-visible (suc d) i (suc n) l v =
-      let e : i + suc d ≡ i + 1 + d = omega arith in
-      let y : visible (getD t i 0) ≡ true = v i (omega arith) (omega arith) in
-      let g : suc n - suc d ≡ n - d = omega arith in
-      rw (y, e, g) (stop-visible d (i + 1) n (omega arith) (λ k a b. v k (omega arith) (omega arith)))
+  -- past the table's end there are none
+  pub past-tail : (i : ℕ) → length t ≤ i → holds TAIL (getD t i 0) ≡ false
+  past-tail i h = ap (holds TAIL) (List·getD-eq-default t 0 {n = i} h)
 
-  pub stop-least : (i n : ℕ) → i ≤ stopIn t i n
-  unfolding stopIn pick
-  stop-least i zero = omega arith
-  stop-least i (suc n) = ⊎-elim (λ e. rw e (let r = stop-least (i + 1) n in omega arith)) (λ e. rw e (omega arith)) (yes-no (visible (getD t i 0)))
-
-  pub stop-most : (i n : ℕ) → stopIn t i n ≤ i + n
-  unfolding stopIn pick
-  stop-most i zero = omega arith
-  stop-most i (suc n) = ⊎-elim (λ e. rw e (let r = stop-most (i + 1) n in omega arith)) (λ e. rw e (omega arith)) (yes-no (visible (getD t i 0)))
-
-  pub stop-seen : (i n k : ℕ) → i ≤ k → k < stopIn t i n → visible (getD t k 0) ≡ true
-  unfolding stopIn pick
-  stop-seen i zero k a b = absurd (omega arith)
-  stop-seen i (suc n) k a b =
+  pub skip-within : (n i : ℕ) → i ≤ length t → skipTo t i n ≤ length t
+  unfolding skipTo pick
+  skip-within zero i h = h
+  skip-within (suc n) i h =
       ⊎-elim
-      (λ e.
-      ⊎-elim (λ (q : i ≡ k). rw (← q) e) (λ (q : i < k). stop-seen (i + 1) n k (omega arith) (rw e at b)) (eq-or-lt-of-le a))
-      (λ e. let z : k < i = rw e at b in absurd (omega arith))
-      (yes-no (visible (getD t i 0)))
+      (λ (e : holds TAIL (getD t i 0) ≡ true).
+      ⊎-elim (λ (p : length t ≤ i). not-both (holds TAIL (getD t i 0)) e (past-tail i p)) (λ (p : i < length t). rw e (skip-within n (i + 1) (omega arith))) (le-or-lt (length t) i))
+      (λ e. rw e h)
+      (yes-no (holds TAIL (getD t i 0)))
 
-  pub stop-end : (i n : ℕ) → stopIn t i n < i + n → visible (getD t (stopIn t i n) 0) ≡ false
-  unfolding stopIn pick
-  stop-end i zero a = absurd (omega arith)
-  stop-end i (suc n) a =
-      ⊎-elim (λ e. let b : stopIn t (i + 1) n < i + suc n = rw e at a in rw e (stop-end (i + 1) n (omega arith))) (λ e. rw e e) (yes-no (visible (getD t i 0)))
+  -- the first that is none, if there are no more
+  skip-is : (n i s : ℕ) → i ≤ s → s ≤ i + n → ((k : ℕ) → i ≤ k → k < s → holds TAIL (getD t k 0) ≡ true) → holds TAIL (getD t s 0) ≡ false → skipTo t i n ≡ s
+  unfolding skipTo pick
+  skip-is zero i s a b v e = omega arith
+  skip-is (suc n) i s a b v e =
+      ⊎-elim (λ (q : i ≡ s). let z : holds TAIL (getD t i 0) ≡ false = rw q e in rw (z, q))
+      (λ (q : i < s). rw (v i (omega arith) q) (skip-is n (i + 1) s (omega arith) (omega arith) (λ k c d. v k (omega arith) d) e))
+      (eq-or-lt-of-le a)
 
-  stop-at : (i n s : ℕ) → s ≤ i + n → Ends i s → stopIn t i n ≡ s
-  unfolding stopIn pick
-  stop-at i zero s b w = let a = w .behind in omega arith
-  stop-at i (suc n) s b w =
-      ⊎-elim (λ (q : i ≡ s). let y : visible (getD t i 0) ≡ false = rw q (w .ends) in rw (y, q))
-      (λ (q : i < s).
-      let y : visible (getD t i 0) ≡ true = w .seen i (omega arith) q in
-      rw y (stop-at (i + 1) n s (omega arith) (record { behind = omega arith; seen = λ k c d. w .seen k (omega arith) d; ends = w .ends })))
-      (eq-or-lt-of-le (w .behind))
+module _ (section : Bool) (t : List ℕ) where
+  -- ---- from block to block
+  -- s is the stop from every place of `start` on that it is not before, if a character may begin there
+  pub record Serves (start s : ℕ) : Type 0 where
+    pub serves : (o : ℕ) → start ≤ o → o ≤ s → holds TAIL (getD t o 0) ≡ false → s ≡ stop section t o
 
-  -- past the table no byte is visible
-  pub past : (k : ℕ) → length t ≤ k → visible (getD t k 0) ≡ false
-  past k p = ap visible (List·getD-eq-default t 0 {n = k} p)
+  pub serves-none : (start : ℕ) → 0 < start → Serves start 0
+  serves-none start h = record { serves = λ o a b n. absurd (omega arith) }
 
-  within : (o s : ℕ) → Ends o s → s ≤ o + length t
-  within o s w =
-      ⊎-elim (λ (q : s ≤ length t). omega arith)
-      (λ (q : length t < s).
-      ⊎-elim (λ (e : o ≡ s). omega arith)
-      (λ (e : o < s). not-both (visible (getD t (s - 1) 0)) (w .seen (s - 1) (omega arith) (omega arith)) (past (s - 1) (omega arith)))
-      (eq-or-lt-of-le (w .behind)))
-      (le-or-lt s (length t))
+  pub serves-next : (b s : ℕ) → s ≡ blockStop section t b → Serves ((b + 1 + 1) * BLOCK) s
+  serves-next b s e =
+      let m = skip-most t TAILS ((b + 1) * BLOCK) in
+      record { serves = λ o a l n. e ∙ sym (walk-same section t (length t) (skip t ((b + 1) * BLOCK)) o (omega arith) (rw e at l) n) }
 
-  -- the stop from o is that place, and no other is
-  pub stop-is : (o s : ℕ) → Ends o s → stop t o ≡ s
-  stop-is o s w = stop-at o (length t) s (within o s w) w
-
-  pub stop-ends : (o : ℕ) → Ends o (stop t o)
-  stop-ends o =
-      let m = stop-most o (length t) in
-      record {
-        behind = stop-least o (length t);
-        seen = λ k a b. stop-seen o (length t) k a b;
-        ends = ⊎-elim (λ (q : o + length t ≤ stop t o). past (stop t o) (omega arith)) (λ q. stop-end o (length t) q) (le-or-lt (o + length t) (stop t o));
-      }
-
-  -- it lies within the table
-  pub stop-low : (o : ℕ) → o ≤ length t → stop t o ≤ length t
-  stop-low o a =
-      let w = stop-ends o in
-      ⊎-elim (λ q. q) (λ (q : length t < stop t o). not-both (visible (getD t (stop t o - 1) 0)) (w .seen (stop t o - 1) (omega arith) (omega arith)) (past (stop t o - 1) (omega arith)))
-      (le-or-lt (stop t o) (length t))
-
-  -- a stop serves every place before it that its bytes reach from
-  pub stop-same : (p o : ℕ) → p ≤ o → o ≤ stop t p → stop t o ≡ stop t p
-  stop-same p o a b =
-      let w = stop-ends p in
-      stop-is o (stop t p) (record { behind = b; seen = λ k c d. w .seen k (omega arith) d; ends = w .ends })
-
-  -- a stop among the first d places is the stop; where there is none it is the stop behind them
-  stop-here : (o d : ℕ) → stopIn t o d < o + d → stop t o ≡ stopIn t o d
-  stop-here o d a = stop-is o (stopIn t o d) (record { behind = stop-least o d; seen = λ k b c. stop-seen o d k b c; ends = stop-end o d a })
-
-  stop-behind : (o d m : ℕ) → m ≡ o + d → o + d ≤ stopIn t o d → stop t o ≡ stop t m
-  stop-behind o d m q a =
-      let w = stop-ends m in
-      let b = w .behind in
-      stop-is o (stop t m)
-      (record {
-        behind = omega arith;
-        seen = λ k c e. ⊎-elim (λ (x : m ≤ k). w .seen k x e) (λ (x : k < m). stop-seen o d k c (omega arith)) (le-or-lt m k);
-        ends = w .ends;
-      })
+  pub stop-low : (b : ℕ) → (b + 1) * BLOCK ≤ length t → blockStop section t b ≤ length t
+  stop-low b h = walk-within section t (length t) (skip t ((b + 1) * BLOCK)) (skip-within t TAILS ((b + 1) * BLOCK) h)
 
   -- ---- by the words
-  noted : (n k s : ℕ) → s ≡ k * BLOCK → stopBehind t (stopWords t n) k s ≡ stop t s
-  unfolding stopBehind pick
-  noted n k s q =
-      let l = length-list (λ b. stop t (b * BLOCK)) n in
-      ⊎-elim (λ (a : n ≤ k). rw (l, le-ltb k n a))
-      (λ (a : k < n). rw (l, lt-ltb k n a, list-at (λ b. stop t (b * BLOCK)) 0 n k a, q))
-      (le-or-lt n k)
+  noted : (n b s : ℕ) → s ≡ skip t ((b + 1) * BLOCK) → pick (ltb b (length (stopWords section t n))) (getD (stopWords section t n) b 0) (stop section t s) ≡ stop section t s
+  unfolding pick
+  noted n b s q =
+      let l = length-list (blockStop section t) n in
+      ⊎-elim (λ (a : n ≤ b). rw (l, le-ltb b n a))
+      (λ (a : b < n). rw (l, lt-ltb b n a, list-at (blockStop section t) 0 n b a, q))
+      (le-or-lt n b)
 
-  pub stop-noted : (stops : List ℕ) (n o : ℕ) → stops ≡ stopWords t n → stopBy t stops o ≡ stop t o
+  behind-noted : (n b e o : ℕ) → e ≡ (b + 1) * BLOCK → o ≤ e → e ≤ walk section t e o → stopBehind section t (stopWords section t n) b (walk section t e o) ≡ stop section t (walk section t e o)
+  unfolding stopBehind pick
+  behind-noted n b e o z a l =
+      let s = walk section t e o in
+      let w = walk-over section t e o a in
+      ⊎-elim (λ (x : holds TAIL (getD t s 0) ≡ true). rw x (sym (walk-off section t (length t) s (inr (tail-no-char section t s x)))))
+      (λ (x : holds TAIL (getD t s 0) ≡ false). rw x (noted n b s (sym (ap (λ (i : ℕ). skip t i) (sym z) ∙ skip-is t TAILS e s l (w .few) (w .tails) x))))
+      (yes-no (holds TAIL (getD t s 0)))
+
+  pub stop-noted : (stops : List ℕ) (n o : ℕ) → stops ≡ stopWords section t n → stopBy section t stops o ≡ stop section t o
   unfolding stopBy pick
-  stop-noted stops n o e =
+  stop-noted stops n o q =
       let d = BLOCK - o % BLOCK in
-      let a = stop-least o d in
-      let m = stop-most o d in
+      let e = o + d in
+      let s = walk section t e o in
+      let a = walk-least section t e o in
       ⊎-elim
-      (λ (q : d ≤ stopIn t o d - o).
-      let z : stopIn t o d ≡ o + d = omega arith in
-      let y : o + d ≡ (o / BLOCK + 1) * BLOCK = omega arith in
-      rw (e, le-ltb (stopIn t o d - o) d q, noted n (o / BLOCK + 1) (stopIn t o d) (z ∙ y)) (sym (stop-behind o d (stopIn t o d) z (omega arith))))
-      (λ (q : stopIn t o d - o < d). rw (lt-ltb (stopIn t o d - o) d q) (sym (stop-here o d (omega arith))))
-      (le-or-lt d (stopIn t o d - o))
+      (λ (l : d ≤ s - o).
+      rw (q, le-ltb (s - o) d l) (behind-noted n (o / BLOCK) e o (omega arith) (omega arith) (omega arith) ∙ stop-behind section t e o))
+      (λ (l : s - o < d). rw (lt-ltb (s - o) d l) (sym (stop-before section t e o (omega arith))))
+      (le-or-lt d (s - o))

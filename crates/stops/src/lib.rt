@@ -1,5 +1,5 @@
 // Long names without walking them. Names may share bytes of the string table, so to walk each to its end could take names times bytes. Here one pass notes where the
-// visible bytes from each block's start end, and then a name costs a block at most.
+// characters from each block's start stop, and then a name costs a block at most. `section` says whose names: a section's may be empty, and has visible bytes alone.
 use names::Digits;
 use names::Name;
 use object::Header;
@@ -7,22 +7,19 @@ ghost use mathlib.Core.Path.{_≡_};
 ghost use Prim.Native.Nat.{_-_, _*_, _/_, _+_, _<_, _≤_, _^_};
 ghost use lib.ListN.{length};
 ghost use Rattle.le.specs.Le.{splice};
-ghost use Rattle.names.specs.Bytes.{allVisible};
 ghost use Rattle.names.specs.Name.{isGood};
-ghost use Rattle.stops.specs.Stops.{EIGHT, BLOCK, strings, stopIn, stop, blocksOf, stopWords, stopCount, stopsOf, stopBy};
-ghost use Rattle.stops.specs.StopLaws.{VisibleTo};
-ghost use Rattle.stops.specs.Names.{mayEnd, fieldEnds, fieldBy, longBy, slashNameBy, symbolNameBy, sectionNameBy};
-
-// How many bytes one look takes, and how many must be left for it: a name in its field is too short to gain by it.
-const EIGHT: usize = 8;
-
-const ENOUGH: usize = 16;
+ghost use Rattle.stops.specs.Stops.{BLOCK, strings, skip, blocksOf, blockStop, stopWords, stopCount, stopsOf, stopBy};
+ghost use Rattle.stops.specs.StopLaws.{Serves};
+ghost use Rattle.stops.specs.Names.{mayEnd, field, fieldEnds, fieldBy, longBy, slashNameBy, symbolNameBy, sectionNameBy};
 
 // The bytes of a block.
 const BLOCK: usize = 16384;
 
 // The blocks whose stop is noted: those of a table of 4 MiB.
 pub const BLOCKS: usize = 256;
+
+// How many tails the character may have that a block's start cuts in two.
+const TAILS: usize = 3;
 
 // The string table's bytes.
 fn strings(f: &[u8], h: Header) -> &[u8]
@@ -33,44 +30,14 @@ fn strings(f: &[u8], h: Header) -> &[u8]
     le::part(f, object::string_table(h), length as usize)
 }
 
-// Each of eight bytes is visible; without a way out between them they are compared at once.
-fn eight_visible(s: &[u8]) -> bool
-    requires { ⌜ length (now s) ≡ EIGHT ⌝ }
-    ensures { λ r. ⌜ r ≡ allVisible (now (s .entry)) ⌝ }
+// Where the first character of its own may begin behind place i.
+fn skip(t: &[u8], i: usize) -> usize
+    ensures { λ r. ⌜ r ≡ skip (now (t .entry)) i ⌝ }
 {
-    let mut ok = true;
-    let mut k: usize = 0;
-    while k < EIGHT {
-        ok = util::both(ok, names::is_visible(s[k]));
-        k += 1;
-    }
-    ok
-}
-
-// From i on, behind as many bytes before e as are visible eight by eight.
-fn leap(t: &[u8], i: usize, e: usize) -> usize
-    requires { ⌜ (i ≤ e) × (i < e → e ≤ length (now t)) ⌝ }
-    ensures { λ r. ⌜ VisibleTo (now (t .entry)) i e r ⌝ }
-{
+    let e = i + le::room(t.len(), i, TAILS);
     let mut k = i;
-    while ENOUGH <= e - k {
-        let to = k + EIGHT;
-        if !eight_visible(&t[k..to]) {
-            return k;
-        }
-        k = to;
-    }
-    k
-}
-
-// The first of the n places from i whose byte no name may have, and i + n where there is none.
-fn scan(t: &[u8], i: usize, n: usize) -> usize
-    ensures { λ r. ⌜ r ≡ stopIn (now (t .entry)) i n ⌝ }
-{
-    let e = i + le::room(t.len(), i, n);
-    let mut k = leap(t, i, e);
     while k < e {
-        if !names::is_visible(t[k]) {
+        if !utf8::is_tail(t[k]) {
             return k;
         }
         k += 1;
@@ -78,13 +45,15 @@ fn scan(t: &[u8], i: usize, n: usize) -> usize
     k
 }
 
-// The stop from block b's start, if that from the block before is s.
-fn next_stop(t: &[u8], b: usize, s: usize) -> usize
-    requires { ⌜ (b ≤ length (now t) / BLOCK) × (s ≡ stop (now t) ((b - 1) * BLOCK)) ⌝ }
-    ensures { λ r. ⌜ r ≡ stop (now (t .entry)) (b * BLOCK) ⌝ }
+// The stop of the block behind block b, if s is one that serves it too.
+fn next_stop(t: &[u8], section: bool, b: usize, s: usize) -> usize
+    requires { ⌜ (b < length (now t) / BLOCK) × Serves section (now t) ((b + 1) * BLOCK) s ⌝ }
+    ensures { λ r. ⌜ r ≡ blockStop section (now (t .entry)) b ⌝ }
 {
-    let o = b * BLOCK;
-    if o <= s { s } else { scan(t, o, t.len()) }
+    let o = skip(t, (b + 1) * BLOCK);
+    let tail = utf8::is_tail(le::byte_at(t, o));
+    let same = util::both(o <= s, !tail);
+    if same { s } else { chars::stop(t, o, section) }
 }
 
 // A place of a table, in 32 bits.
@@ -95,15 +64,15 @@ fn narrow(x: usize) -> u32
     x as u32
 }
 
-// The stops of n blocks: each byte is looked at once, as a stop that lies further on serves the blocks before it too.
-fn note_stops(t: &[u8], n: usize, stops: &mut [u32])
-    requires { ⌜ (length (now t) < 2 ^ 32) × (n ≤ length (now t) / BLOCK + 1) ⌝ }
-    ensures { λ _. ⌜ now (stops .exit) ≡ splice (now (stops .entry)) 0 (stopWords (now (t .entry)) n) ⌝ }
+// The stops of n blocks behind the first: each byte is looked at once, as a stop that lies further on serves the blocks before it too.
+fn note_stops(t: &[u8], section: bool, n: usize, stops: &mut [u32])
+    requires { ⌜ (length (now t) < 2 ^ 32) × (n ≤ length (now t) / BLOCK) ⌝ }
+    ensures { λ _. ⌜ now (stops .exit) ≡ splice (now (stops .entry)) 0 (stopWords section (now (t .entry)) n) ⌝ }
 {
-    let mut s = scan(t, 0, t.len());
+    let mut s: usize = 0;
     let mut b: usize = 0;
     while b < n {
-        s = next_stop(t, b, s);
+        s = next_stop(t, section, b, s);
         le::put_word(stops, b, narrow(s));
         b += 1;
     }
@@ -113,18 +82,18 @@ fn note_stops(t: &[u8], n: usize, stops: &mut [u32])
 fn blocks_of(length: usize) -> usize
     ensures { λ r. ⌜ r ≡ blocksOf length ⌝ }
 {
-    let n = length / BLOCK + 1;
+    let n = length / BLOCK;
     if n < BLOCKS { n } else { BLOCKS }
 }
 
 // The stops of the string table's blocks, and how many there are.
-pub fn fill_stops(f: &[u8], h: Header, stops: &mut [u32]) -> usize
+pub fn fill_stops(f: &[u8], h: Header, section: bool, stops: &mut [u32]) -> usize
     ensures { λ r. ⌜ r ≡ stopCount (now (f .entry)) h ⌝ }
-    ensures { λ _. ⌜ now (stops .exit) ≡ splice (now (stops .entry)) 0 (stopsOf (now (f .entry)) h) ⌝ }
+    ensures { λ _. ⌜ now (stops .exit) ≡ splice (now (stops .entry)) 0 (stopsOf section (now (f .entry)) h) ⌝ }
 {
     let t = strings(f, h);
     let n = blocks_of(t.len());
-    note_stops(t, n, stops);
+    note_stops(t, section, n, stops);
     n
 }
 
@@ -136,25 +105,28 @@ fn wide(x: u32) -> usize
 }
 
 // The stop from o by those words.
-fn stop_by(t: &[u8], stops: &[u32], o: usize) -> usize
-    ensures { λ r. ⌜ r ≡ stopBy (now (t .entry)) (now (stops .entry)) o ⌝ }
+fn stop_by(t: &[u8], section: bool, stops: &[u32], o: usize) -> usize
+    ensures { λ r. ⌜ r ≡ stopBy section (now (t .entry)) (now (stops .entry)) o ⌝ }
 {
     let d = BLOCK - o % BLOCK;
-    let s = scan(t, o, d);
+    let s = chars::walk(t, o, d, section);
     if s - o < d {
         return s;
     }
-    let k = o / BLOCK + 1;
-    if k < stops.len() {
-        wide(stops[k])
+    if utf8::is_tail(le::byte_at(t, s)) {
+        return s;
+    }
+    let b = o / BLOCK;
+    if b < stops.len() {
+        wide(stops[b])
     } else {
-        scan(t, s, t.len())
+        chars::stop(t, s, section)
     }
 }
 
-// In a table of `length` bytes a name at o may end at s; `empty` says whether it may be empty.
-fn may_end(t: &[u8], length: usize, empty: bool, o: usize, s: usize) -> bool
-    ensures { λ r. ⌜ r ≡ mayEnd (now (t .entry)) length empty o s ⌝ }
+// In a table of `length` bytes a name at o may end at s.
+fn may_end(t: &[u8], length: usize, section: bool, o: usize, s: usize) -> bool
+    ensures { λ r. ⌜ r ≡ mayEnd (now (t .entry)) length section o s ⌝ }
 {
     util::both(
         object::LENGTH_SIZE <= o,
@@ -162,62 +134,71 @@ fn may_end(t: &[u8], length: usize, empty: bool, o: usize, s: usize) -> bool
             s < length,
             util::both(
                 le::byte_at(t, s) == 0,
-                util::either(o < s, util::both(empty, o == s)),
+                util::either(o < s, util::both(section, o == s)),
             ),
         ),
     )
 }
 
 // There is a good long name at o.
-fn long_ok(f: &[u8], h: Header, stops: &[u32], empty: bool, o: usize) -> bool
-    ensures { λ r. ⌜ r ≡ isGood (longBy (now (f .entry)) h (now (stops .entry)) empty o) ⌝ }
+fn long_ok(f: &[u8], h: Header, stops: &[u32], section: bool, o: usize) -> bool
+    ensures { λ r. ⌜ r ≡ isGood (longBy (now (f .entry)) h (now (stops .entry)) section o) ⌝ }
 {
     let length = object::string_length(f, h);
     let t = le::part(f, object::string_table(h), length as usize);
-    may_end(t, length as usize, empty, o, stop_by(t, stops, o))
+    may_end(
+        t,
+        length as usize,
+        section,
+        o,
+        stop_by(t, section, stops, o),
+    )
 }
 
 // The long name at o.
-fn long_name(f: &[u8], h: Header, stops: &[u32], empty: bool, o: usize) -> Name
-    ensures { λ r. ⌜ r ≡ longBy (now (f .entry)) h (now (stops .entry)) empty o ⌝ }
+fn long_name(f: &[u8], h: Header, stops: &[u32], section: bool, o: usize) -> Name
+    ensures { λ r. ⌜ r ≡ longBy (now (f .entry)) h (now (stops .entry)) section o ⌝ }
 {
     let t = strings(f, h);
     let length = object::string_length(f, h);
-    let s = stop_by(t, stops, o);
-    if may_end(t, length as usize, empty, o, s) {
+    let s = stop_by(t, section, stops, o);
+    if may_end(t, length as usize, section, o, s) {
         Name::Good(object::string_table(h) + o, s - o)
     } else {
         Name::Bad
     }
 }
 
-// A name in the field at `at` may end at s; `empty` says whether it may be empty.
-fn field_ends(f: &[u8], empty: bool, at: usize, s: usize) -> bool
-    requires { ⌜ at < 2 ^ 38 ⌝ }
-    ensures { λ r. ⌜ r ≡ fieldEnds (now (f .entry)) empty at s ⌝ }
+// The bytes of the name's field at `at`.
+fn field(f: &[u8], at: usize) -> &[u8]
+    ensures { λ r. ⌜ now r ≡ field (now (f .entry)) at ⌝ }
 {
-    util::both(
-        util::either(at < s, empty),
-        util::either(s == at + object::NAME_SIZE, le::byte_at(f, s) == 0),
-    )
+    le::part(f, at, object::NAME_SIZE)
+}
+
+// A name of s bytes may stand in a field.
+fn field_ends(t: &[u8], section: bool, s: usize) -> bool
+    ensures { λ r. ⌜ r ≡ fieldEnds (now (t .entry)) section s ⌝ }
+{
+    util::both(util::either(0 < s, section), le::byte_at(t, s) == 0)
 }
 
 // There is a good name in the field at `at`.
-fn field_ok(f: &[u8], empty: bool, at: usize) -> bool
-    requires { ⌜ at < 2 ^ 38 ⌝ }
-    ensures { λ r. ⌜ r ≡ isGood (fieldBy (now (f .entry)) empty at) ⌝ }
+fn field_ok(f: &[u8], section: bool, at: usize) -> bool
+    ensures { λ r. ⌜ r ≡ isGood (fieldBy (now (f .entry)) section at) ⌝ }
 {
-    field_ends(f, empty, at, scan(f, at, object::NAME_SIZE))
+    let t = field(f, at);
+    field_ends(t, section, chars::stop_short(t, section))
 }
 
 // The name in the field at `at`.
-fn field_name(f: &[u8], empty: bool, at: usize) -> Name
-    requires { ⌜ at < 2 ^ 38 ⌝ }
-    ensures { λ r. ⌜ r ≡ fieldBy (now (f .entry)) empty at ⌝ }
+fn field_name(f: &[u8], section: bool, at: usize) -> Name
+    ensures { λ r. ⌜ r ≡ fieldBy (now (f .entry)) section at ⌝ }
 {
-    let s = scan(f, at, object::NAME_SIZE);
-    if field_ends(f, empty, at, s) {
-        Name::Good(at, s - at)
+    let t = field(f, at);
+    let s = chars::stop_short(t, section);
+    if field_ends(t, section, s) {
+        Name::Good(at, s)
     } else {
         Name::Bad
     }

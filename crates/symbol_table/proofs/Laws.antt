@@ -31,7 +31,7 @@ use Rattle.symbol_table.specs.Symbols.{symbolWords, symbolTable}
 -- a symbol's record from what was read of it
 pub symbol-put : (f : List ℕ) (h : Header) (base : ℕ) (home : ℕ → Offset) (row : ℕ → ℕ) (stops b c : List ℕ) (s : Symbol) (j k x v kn ns nl rec : ℕ) (at : RVA) (name : Name) (sk : SymbolKind) (p : Place)
     → c ≡ splice b k (wordBytes (x ∷ kn ∷ ns ∷ nl ∷ j ∷ rec ∷ [])) → x ≡ (base + at .0) % 2 ^ 64 → at ≡ rva (offsetFrom (placeHome home p) v) → v ≡ listedOf s → kn ≡ kindNumber sk → sk ≡ kindOf s
-    → ns ≡ nameStart name → nl ≡ nameLength name → name ≡ symbolNameBy f h stops j → stops ≡ stopsOf f h → rec ≡ ofPlace row 0 p → p ≡ placeOf s → s ≡ symbolOf f h j
+    → ns ≡ nameStart name → nl ≡ nameLength name → name ≡ symbolNameBy f h stops j → stops ≡ stopsOf false f h → rec ≡ ofPlace row 0 p → p ≡ placeOf s → s ≡ symbolOf f h j
     → c ≡ splice b k (wordBytes (symbolWords f h base home row j))
 unfolding symbolWords
 symbol-put f h base home row stops b c s j k x v kn ns nl rec at name sk p d lo e1 e0 e2 e3 e4 e5 e w e7 e8 is =

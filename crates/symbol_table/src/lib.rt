@@ -3,6 +3,7 @@ use arch::VA;
 use object::Header;
 use object::Symbol;
 ghost use mathlib.Core.Path.{_≡_};
+ghost use mathlib.Core.Bool.{false};
 ghost use Prim.Native.Nat.{_*_};
 ghost use Rattle.limits.specs.Records.{SYMBOL-BYTES};
 ghost use Rattle.le.specs.Le.{splice};
@@ -24,7 +25,7 @@ fn put_symbol(
     n: u32,
     b: &mut [u8],
 )
-    requires { ⌜ (now stops ≡ stopsOf (now f) h) × (s ≡ symbolOf (now f) h j) ⌝ }
+    requires { ⌜ (now stops ≡ stopsOf false (now f) h) × (s ≡ symbolOf (now f) h j) ⌝ }
     ensures { λ _. ⌜ now (b .exit) ≡ splice (now (b .entry)) (SYMBOL-BYTES * n) (wordBytes (symbolWords (now (f .entry)) h (base .0) (homeIn (now (homes .entry))) (recordIn (now (homes .entry))) j)) ⌝ }
 {
     let p = object::place_of(s);
@@ -46,7 +47,7 @@ fn put_symbol(
 
 // A record for each listed symbol, in file order.
 fn write_listed(f: &[u8], h: Header, base: VA, homes: &[u32], stops: &[u32], b: &mut [u8])
-    requires { ⌜ now stops ≡ stopsOf (now f) h ⌝ }
+    requires { ⌜ now stops ≡ stopsOf false (now f) h ⌝ }
     ensures { λ _. ⌜ now (b .exit) ≡ splice (now (b .entry)) 0 (symbolTable (now (f .entry)) h (base .0) (homeIn (now (homes .entry))) (recordIn (now (homes .entry)))) ⌝ }
 {
     let m = h.symbols;
@@ -72,6 +73,6 @@ pub fn write_symbols(f: &[u8], h: Header, base: VA, homes: &[u32], b: &mut [u8])
     ensures { λ _. ⌜ now (b .exit) ≡ splice (now (b .entry)) 0 (symbolTable (now (f .entry)) h (base .0) (homeIn (now (homes .entry))) (recordIn (now (homes .entry)))) ⌝ }
 {
     let mut stops = [0u32; stops::BLOCKS];
-    let n = stops::fill_stops(f, h, &mut stops);
+    let n = stops::fill_stops(f, h, false, &mut stops);
     write_listed(f, h, base, homes, le::words(&stops, n), b);
 }

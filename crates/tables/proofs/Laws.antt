@@ -36,7 +36,7 @@ two-low a b ws x y p q =
 
 pub section-put : (f : List ℕ) (h : Header) (base : ℕ) (home : ℕ → Offset) (stops b c : List ℕ) (i k len from to perm ns nl x y : ℕ) (at : RVA) (name : Name)
     → c ≡ splice b k (wordBytes (x ∷ y ∷ from ∷ to ∷ perm ∷ ns ∷ nl ∷ (i + 1) ∷ [])) → x ≡ (base + at .0) % 2 ^ 64 → y ≡ (x + len) % 2 ^ 64 → at ≡ rva (startOf (home i)) → len ≡ rangeLength f h i
-    → from ≡ fileStart f h i → to ≡ fileEnd f h i → perm ≡ permissions f h i → ns ≡ nameStart name → nl ≡ nameLength name → name ≡ sectionNameBy f h stops i → stops ≡ stopsOf f h
+    → from ≡ fileStart f h i → to ≡ fileEnd f h i → perm ≡ permissions f h i → ns ≡ nameStart name → nl ≡ nameLength name → name ≡ sectionNameBy f h stops i → stops ≡ stopsOf true f h
     → c ≡ splice b k (wordBytes (sectionWords f h base home i))
 unfolding sectionWords
 section-put f h base home stops b c i k len from to perm ns nl x y at name d lo hi e1 e2 e3 e4 e5 e6 e7 e w =
@@ -82,7 +82,7 @@ pub ruleset sections-loop = (sections-none, sections-end, sections-long)
 
 -- ---- externs
 pub extern-put : (f : List ℕ) (h : Header) (base undef : ℕ) (slots stops b c : List ℕ) (e k j ns nl s x : ℕ) (name : Name) → c ≡ splice b k (wordBytes (x ∷ j ∷ ns ∷ nl ∷ []))
-    → s ≡ (base + undef) % 2 ^ 64 → x ≡ (s + SLOT-SIZE * e) % 2 ^ 64 → j ≡ getD slots e 0 → ns ≡ nameStart name → nl ≡ nameLength name → name ≡ symbolNameBy f h stops j → stops ≡ stopsOf f h
+    → s ≡ (base + undef) % 2 ^ 64 → x ≡ (s + SLOT-SIZE * e) % 2 ^ 64 → j ≡ getD slots e 0 → ns ≡ nameStart name → nl ≡ nameLength name → name ≡ symbolNameBy f h stops j → stops ≡ stopsOf false f h
     → c ≡ splice b k (wordBytes (externWords f h base undef slots e))
 unfolding externWords
 extern-put f h base undef slots stops b c e k j ns nl s x name d lo hi e1 e2 e3 q w =

@@ -3,6 +3,7 @@ use arch::RVA;
 use arch::VA;
 use object::Header;
 ghost use mathlib.Core.Path.{_≡_};
+ghost use mathlib.Core.Bool.{false};
 ghost use Prim.Native.Nat.{_*_};
 ghost use Rattle.limits.specs.Records.{EXTERN-BYTES};
 ghost use Rattle.le.specs.Le.{splice};
@@ -20,7 +21,7 @@ fn put_extern(
     e: u32,
     b: &mut [u8],
 )
-    requires { ⌜ now stops ≡ stopsOf (now f) h ⌝ }
+    requires { ⌜ now stops ≡ stopsOf false (now f) h ⌝ }
     ensures { λ _. ⌜ now (b .exit) ≡ splice (now (b .entry)) (EXTERN-BYTES * e) (wordBytes (externWords (now (f .entry)) h (base .0) (undef .0) (now (slots .entry)) e)) ⌝ }
 {
     let j = le::word_at(slots, e as usize);
@@ -47,7 +48,7 @@ fn list_externs(
     n: u32,
     b: &mut [u8],
 )
-    requires { ⌜ now stops ≡ stopsOf (now f) h ⌝ }
+    requires { ⌜ now stops ≡ stopsOf false (now f) h ⌝ }
     ensures { λ _. ⌜ now (b .exit) ≡ splice (now (b .entry)) 0 (externTable (now (f .entry)) h (base .0) (undef .0) (now (slots .entry)) n) ⌝ }
 {
     let mut e: u32 = 0;
@@ -62,6 +63,6 @@ pub fn write_externs(f: &[u8], h: Header, base: VA, undef: RVA, slots: &[u32], n
     ensures { λ _. ⌜ now (b .exit) ≡ splice (now (b .entry)) 0 (externTable (now (f .entry)) h (base .0) (undef .0) (now (slots .entry)) n) ⌝ }
 {
     let mut stops = [0u32; stops::BLOCKS];
-    let m = stops::fill_stops(f, h, &mut stops);
+    let m = stops::fill_stops(f, h, false, &mut stops);
     list_externs(f, h, base, undef, slots, le::words(&stops, m), n, b);
 }

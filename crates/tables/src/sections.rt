@@ -4,6 +4,7 @@ use arch::RVA;
 use arch::VA;
 use object::Header;
 ghost use mathlib.Core.Path.{_≡_};
+ghost use mathlib.Core.Bool.{true};
 ghost use Prim.Native.Nat.{_*_};
 ghost use Rattle.limits.specs.Records.{SECTION-BYTES};
 ghost use Rattle.le.specs.Le.{splice};
@@ -26,7 +27,7 @@ fn put_section(
     n: u32,
     b: &mut [u8],
 )
-    requires { ⌜ now stops ≡ stopsOf (now f) h ⌝ }
+    requires { ⌜ now stops ≡ stopsOf true (now f) h ⌝ }
     ensures { λ _. ⌜ now (b .exit) ≡ splice (now (b .entry)) (SECTION-BYTES * n) (wordBytes (sectionWords (now (f .entry)) h (base .0) (homeIn (now (homes .entry))) i)) ⌝ }
 {
     let at = homes::start_in(homes, i);
@@ -65,7 +66,7 @@ fn list_sections(
     undef: RVA,
     b: &mut [u8],
 )
-    requires { ⌜ now stops ≡ stopsOf (now f) h ⌝ }
+    requires { ⌜ now stops ≡ stopsOf true (now f) h ⌝ }
     ensures { λ _. ⌜ now (b .exit) ≡ splice (now (b .entry)) 0 (sectionTable (now (f .entry)) h (base .0) (homeIn (now (homes .entry))) (undef .0)) ⌝ }
 {
     let m = h.sections as u32;
@@ -88,6 +89,6 @@ pub fn write_sections(f: &[u8], h: Header, base: VA, homes: &[u32], undef: RVA, 
     ensures { λ _. ⌜ now (b .exit) ≡ splice (now (b .entry)) 0 (sectionTable (now (f .entry)) h (base .0) (homeIn (now (homes .entry))) (undef .0)) ⌝ }
 {
     let mut stops = [0u32; stops::BLOCKS];
-    let n = stops::fill_stops(f, h, &mut stops);
+    let n = stops::fill_stops(f, h, true, &mut stops);
     list_sections(f, h, base, homes, le::words(&stops, n), undef, b);
 }

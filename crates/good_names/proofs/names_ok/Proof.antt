@@ -1,5 +1,6 @@
 use borrow.Author.Needs.{needs}
-use Rattle.stops.specs.NameLaws.{stops-kept}
+use Rattle.stops.specs.NameLaws.{kept}
+use Rattle.good_names.proofs.Laws.{names-are}
 use Rattle.good_names.proofs.names_ok.Statement.{statement}
 use Rattle.good_names.proofs.names_ok.Tie as tie
 
@@ -7,9 +8,9 @@ pub names-ok-spec : {M : Type 1} → statement M
 names-ok-spec =
     tie.close
     (tie.spec
-    (λ c. search (needs, stops-kept))
-    (λ c. search (needs, stops-kept))
-    (λ c. search (needs, stops-kept))
-    (λ c. search (needs, stops-kept))
-    (λ c. search (needs, stops-kept))
-    (λ c. search (needs, stops-kept)))
+    (λ c. search (needs, kept, names-are))
+    (λ c. search (needs, kept, names-are))
+    (λ c. search (needs, kept, names-are))
+    (λ c. search (needs, kept, names-are))
+    (λ c. search (needs, kept, names-are))
+    (λ c. search (needs, kept, names-are)))

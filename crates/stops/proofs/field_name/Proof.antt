@@ -7,8 +7,8 @@ pub field-name-spec : {M : Type 1} → statement M
 field-name-spec =
     tie.close
     (tie.spec
-    (λ c κs. search needs)
-    (λ c κs. search needs)
+    (λ c. search (needs, field-ways))
+    (λ c. search (needs, field-ways))
     (λ c. search (needs, field-ways))
     (λ c. search (needs, field-ways))
     (λ c. search (needs, field-ways)))

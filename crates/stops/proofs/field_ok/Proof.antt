@@ -7,6 +7,7 @@ pub field-ok-spec : {M : Type 1} → statement M
 field-ok-spec =
     tie.close
     (tie.spec
-    (λ c κs. search needs)
-    (λ c κs. search needs)
+    (λ c. search (needs, field-test))
+    (λ c. search (needs, field-test))
+    (λ c. search (needs, field-test))
     (λ c. search (needs, field-test)))

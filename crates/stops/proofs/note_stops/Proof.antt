@@ -1,17 +1,18 @@
 use borrow.Author.Needs.{needs}
-use Prim.Native.Nat.{_-_, _*_, _≤_}
-use mathlib.Core.Path.{_≡_}
-use Rattle.le.specs.Le.{splice}
-use Rattle.stops.specs.Stops.{stop, BLOCK, stopWords}
 use Rattle.stops.proofs.Laws.{stops-loop}
+use mathlib.Core.Path.{_≡_}
+use Prim.Native.Nat.{_+_, _-_, _*_, _≤_}
+use Rattle.le.specs.Le.{splice}
+use Rattle.stops.specs.Stops.{BLOCK, stopWords}
+use Rattle.stops.specs.StopLaws.{Serves}
 use Rattle.stops.proofs.note_stops.Statement.{statement}
 use Rattle.stops.proofs.note_stops.Tie as tie
 
 abbrev Inv-loop : tie.InvT-loop
-Inv-loop t n stops₀ s₀ b₀ stops s b = (b ≤ n) × (s ≡ stop t ((b - 1) * BLOCK)) × (stops ≡ splice stops₀ 0 (stopWords t b))
+Inv-loop t section n stops₀ s₀ b₀ stops s b = (b ≤ n) × Serves section t ((b + 1) * BLOCK) s × (stops ≡ splice stops₀ 0 (stopWords section t b))
 
 abbrev μ-loop : tie.MeasureT-loop
-μ-loop t n stops₀ s₀ b₀ stops s b = n - b
+μ-loop t section n stops₀ s₀ b₀ stops s b = n - b
 
 pub note-stops-spec : {M : Type 1} → statement M
 note-stops-spec =
@@ -19,7 +20,6 @@ note-stops-spec =
     (tie.spec
     Inv-loop
     μ-loop
-    (λ c. search (needs, stops-loop))
     (λ c. search (needs, stops-loop))
     (λ c. search (needs, stops-loop))
     (λ c. search (needs, stops-loop))

@@ -17,4 +17,6 @@ stop-by-spec =
     (λ c. search (needs, stop-ways))
     (λ c. search (needs, stop-ways))
     (λ c. search (needs, stop-ways))
+    (λ c. search (needs, stop-ways))
+    (λ c. search (needs, stop-ways))
     (λ c. search (needs, stop-ways)))

@@ -1,5 +1,5 @@
 use borrow.Author.Needs.{needs}
-use Rattle.stops.specs.NameLaws.{stops-kept}
+use Rattle.stops.specs.NameLaws.{kept}
 use Rattle.symbol_table.proofs.write_symbols.Statement.{statement}
 use Rattle.symbol_table.proofs.write_symbols.Tie as tie
 
@@ -7,10 +7,10 @@ pub write-symbols-spec : {M : Type 1} → statement M
 write-symbols-spec =
     tie.close
     (tie.spec
-    (λ c. search (needs, stops-kept))
-    (λ c. search (needs, stops-kept))
-    (λ c. search (needs, stops-kept))
-    (λ c. search (needs, stops-kept))
-    (λ c. search (needs, stops-kept))
-    (λ c. search (needs, stops-kept))
-    (λ c. search (needs, stops-kept)))
+    (λ c. search (needs, kept))
+    (λ c. search (needs, kept))
+    (λ c. search (needs, kept))
+    (λ c. search (needs, kept))
+    (λ c. search (needs, kept))
+    (λ c. search (needs, kept))
+    (λ c. search (needs, kept)))
