@@ -1,4 +1,6 @@
 // Numbers that were read, as the addresses or offsets that they stand for.
+#![tactic(auto)]
+
 ghost use Rattle.std.specs.Prelude.{◌≡◌};
 ghost use Rattle.answers.specs.Answers.{as_address, as_offset};
 
@@ -6,14 +8,14 @@ use arch::{RVA, VA};
 use refusal::Number;
 
 // An address, or the number of a refusal.
-#[derive(Drop)]
+#[derive(Clone, Copy)]
 pub enum AddressAnswer {
     Found(VA),
     Refused(u64),
 }
 
 // An offset from the base, or the number of a refusal.
-#[derive(Drop)]
+#[derive(Clone, Copy)]
 pub enum OffsetAnswer {
     Found(RVA),
     Refused(u64),

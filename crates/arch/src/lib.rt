@@ -1,4 +1,6 @@
 // The machines, from arch.rs, and addresses, offsets and pages, from lib.rs, pagemap.rs and aspace.rs.
+#![tactic(auto)]
+
 ghost use Rattle.std.specs.Prelude.{◌≡◌};
 ghost use Rattle.arch.specs.Machine.{pointer_size, machine_of, arch_of, arch_by};
 
@@ -8,36 +10,36 @@ mod page;
 pub use page::PAGE_SIZE;
 
 // An address.
-#[derive(Drop)]
+#[derive(Clone, Copy)]
 pub struct VA(pub u64);
 
 // An offset from the base. Only with the base does an address become an offset or an offset an address.
-#[derive(Drop)]
+#[derive(Clone, Copy)]
 pub struct RVA(pub u64);
 
 // An offset, or none: the address lies below the base, or the sum is past 64 bits.
-#[derive(Drop)]
+#[derive(Clone, Copy)]
 pub enum Offset {
     At(RVA),
     None,
 }
 
 // An address, or a sum past 64 bits.
-#[derive(Drop)]
+#[derive(Clone, Copy)]
 pub enum Address {
     Of(VA),
     Past,
 }
 
 // The machines that are loaded: i386 and x64.
-#[derive(Drop)]
+#[derive(Clone, Copy)]
 pub enum Arch {
     X32,
     X64,
 }
 
 // What a machine number says: a machine that is known, or none.
-#[derive(Drop)]
+#[derive(Clone, Copy)]
 pub enum Machine {
     Known(Arch),
     Unknown,

@@ -2,6 +2,8 @@
 // an object, each ended by one space or newline: sections; symbol records; how many of these are defined; relocations; extern names; how many
 // of these are long; a long name's bytes; the class of the undefined symbols; how often the object is surveyed. Each survey writes a line of
 // its counts.
+#![tactic(auto)]
+
 mod input;
 mod line;
 mod long_names;

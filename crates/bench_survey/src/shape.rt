@@ -4,7 +4,7 @@ ghost use Rattle.std.specs.Prelude.{◌≤◌, ◌<◌, ◌^◌};
 pub(crate) const NUMBERS: u16 = 9;
 
 // 16 bits each, so that no sum below wraps.
-#[derive(Drop)]
+#[derive(Clone, Copy)]
 pub(crate) struct Plan {
     pub sections: u16,
     pub symbols: u16,

@@ -1,4 +1,6 @@
 // Refusals 1 to 5: what the records say lies in the file, and there is not too much of it. A check is called only where those before it passed.
+#![tactic(auto)]
+
 ghost use Rattle.std.specs.Prelude.{◌≡◌};
 ghost use Rattle.util.specs.Prefix.{all_to};
 ghost use Rattle.bounds.specs.Bounds.{

@@ -1,5 +1,7 @@
 // Cases as lines of text: words with one space between them, the numbers decimal or behind `0x`, the bytes as pairs of hexadecimal digits. What the
 // test programs share: they read a line, write it again, and behind it the answer.
+#![tactic(auto)]
+
 mod buffers;
 mod crc;
 mod say;

@@ -1,4 +1,6 @@
 // The characters of names, one behind another: what a section's name and a symbol's may hold.
+#![tactic(auto)]
+
 ghost use Rattle.std.specs.Prelude.{◌≡◌, false, ◌+◌, ◌≤◌, ◌<◌, length, get_or};
 ghost use Rattle.chars.specs.Chars.{EIGHT, visible, all_visible, good_section_name, good_symbol_name, walk, stop};
 ghost use Rattle.chars.specs.WalkLaws.{VisibleTo, VisibleRun};

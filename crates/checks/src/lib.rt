@@ -1,4 +1,6 @@
 // Refusals 7 and 8: section numbers and mapped pages; and 12, the base. A check is called only where those before it passed.
+#![tactic(auto)]
+
 ghost use Rattle.std.specs.Prelude.{◌≡◌, leb};
 ghost use Rattle.limits.specs.Limits.{MAX_PAGES};
 ghost use Rattle.layout.specs.Layout.{pages_to};

@@ -1,4 +1,6 @@
 // What each symbol record comes to when a relocation names it, found once and kept in 16 bits.
+#![tactic(auto)]
+
 ghost use Rattle.std.specs.Prelude.{◌≡◌, true, false, [], ◌∷◌, ◌≤◌, eqb, length, get_or};
 ghost use Rattle.limits.specs.Limits.{MAX_SECTIONS};
 ghost use Rattle.util.specs.Pick.{pick};

@@ -1,4 +1,6 @@
 // The request's demands: theorems over the definitions that the contracts use (specs/), and a function that runs a list of calls under them.
+#![tactic(auto)]
+
 ghost use Rattle.std.specs.Prelude.{◌≡◌, ◌*◌, ◌+◌, ◌≤◌, min, length};
 ghost use Rattle.util.specs.Pick.{pick};
 ghost use Rattle.le.specs.Le.{splice};

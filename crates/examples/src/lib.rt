@@ -1,1 +1,2 @@
 // Objects built by a definition from numbers: specs alone.
+#![tactic(auto)]

@@ -1,4 +1,6 @@
 // The extern names, from get_coff_extern_names: kept as symbol numbers, sorted by the bytes of their names.
+#![tactic(auto)]
+
 ghost use Rattle.std.specs.Prelude.{◌≡◌, [], ◌∷◌, ◌+◌, ◌-◌, ◌≤◌, ◌<◌, length, replicate};
 ghost use Rattle.le.specs.Le.{splice};
 ghost use Rattle.object.specs.Section.{relocation_count};
@@ -22,21 +24,21 @@ use object::Header;
 const LEAP: usize = 8;
 
 // How many names there are, or more than the limit.
-#[derive(Drop)]
+#[derive(Clone, Copy)]
 pub enum Names {
     TooMany,
     Count(usize),
 }
 
 // The slot of a name, if it has one.
-#[derive(Drop)]
+#[derive(Clone, Copy)]
 pub enum Found {
     Index(usize),
     Nothing,
 }
 
 // Where a symbol goes in the list: before that index, or its name stands there.
-#[derive(Drop)]
+#[derive(Clone, Copy)]
 enum Spot {
     Before(usize),
     Present(usize),

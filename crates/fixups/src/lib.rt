@@ -1,4 +1,6 @@
 // What becomes of each relocation, from get_coff_fixups. Places and targets are offsets; the base enters in `value` alone.
+#![tactic(auto)]
+
 mod outcomes;
 mod tallies;
 
@@ -9,7 +11,7 @@ pub use tallies::tally_of;
 use targets::Skip;
 
 // A fixup before the base is known: the addend is in two's complement.
-#[derive(Drop)]
+#[derive(Clone, Copy)]
 pub struct Fix {
     pub place: RVA,
     pub bits: u64,
@@ -19,7 +21,7 @@ pub struct Fix {
 }
 
 // What becomes of a relocation: each is passed, skipped for a reason, refused by 10, or a fixup of the list.
-#[derive(Drop)]
+#[derive(Clone, Copy)]
 pub enum Outcome {
     Passed,
     Skipped(Skip),
@@ -28,7 +30,7 @@ pub enum Outcome {
 }
 
 // How many relocations came to each outcome, and how many fixups have a byte outside the mapped pages.
-#[derive(Drop)]
+#[derive(Clone, Copy)]
 pub struct Tally {
     pub passed: u64,
     pub skips: u64,

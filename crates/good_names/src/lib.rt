@@ -1,4 +1,6 @@
 // Refusal 6: every section's name is good, and every symbol's, in time linear in the file: long names are found by the noted stops.
+#![tactic(auto)]
+
 ghost use Rattle.std.specs.Prelude.{◌≡◌, true, false, length};
 ghost use Rattle.util.specs.Prefix.{all_to};
 ghost use Rattle.object.specs.Symbol.{auxiliaries_left, ok_at, all_symbols};

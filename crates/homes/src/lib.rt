@@ -1,4 +1,6 @@
 // Homes of sections, and the symbols that are listed by them, from get_coff_symbols.
+#![tactic(auto)]
+
 mod fill;
 mod kept;
 mod listed;

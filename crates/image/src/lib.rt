@@ -1,4 +1,6 @@
 // The laid image and its marks, in lent storage. Offsets from the base are places in the image.
+#![tactic(auto)]
+
 ghost use Rattle.std.specs.Prelude.{◌≡◌};
 ghost use Rattle.marks.specs.Marks.{marks_put};
 ghost use Rattle.homes.specs.Home.{home_in};

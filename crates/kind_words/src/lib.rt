@@ -1,4 +1,6 @@
 // Document 01's words for kinds of symbols, places and kinds of relocations, put into a lent buffer. Each function answers the place behind the word.
+#![tactic(auto)]
+
 ghost use Rattle.kinds.specs.Words.{kind_word, place_word, relocation_kind_word};
 ghost use Rattle.text.specs.Text.{Puts};
 

@@ -1,4 +1,6 @@
 // What the numbers in a COFF object's records mean: kinds and places of symbols, flags of sections, types of relocations. No file is read here.
+#![tactic(auto)]
+
 mod flags;
 mod symbol_kinds;
 mod types;
@@ -8,7 +10,7 @@ pub use symbol_kinds::{kind_by, kind_number, listed_by, place_by};
 pub use types::{X32_TYPES, X64_TYPES, row_in, type_of, unpack};
 
 // What a symbol is: of a class that is not known, code, data, a section, a source file or a label.
-#[derive(Drop)]
+#[derive(Clone, Copy)]
 pub enum SymbolKind {
     Unknown,
     Text,
@@ -19,7 +21,7 @@ pub enum SymbolKind {
 }
 
 // Where a symbol is: in a section, by its number from 1; undefined; common; absolute; nowhere, as a file's name; or a number with no meaning.
-#[derive(Drop)]
+#[derive(Clone, Copy)]
 pub enum Place {
     In(u32),
     Undefined,
@@ -30,7 +32,7 @@ pub enum Place {
 }
 
 // What a type stands for: an address, an offset in the image or the section, a distance from the place; one that is refused; one that is skipped.
-#[derive(Drop)]
+#[derive(Clone, Copy)]
 pub enum RelocationKind {
     Absolute,
     ImageOffset,
@@ -41,7 +43,7 @@ pub enum RelocationKind {
 }
 
 // The addend is in two's complement.
-#[derive(Drop)]
+#[derive(Clone, Copy)]
 pub struct RelocationType {
     pub kind: RelocationKind,
     pub bits: u64,

@@ -1,4 +1,6 @@
 // The layout of the image, from load_coff_sections: where sections start, and where their records stand in the section table.
+#![tactic(auto)]
+
 ghost use Rattle.std.specs.Prelude.{◌≡◌, ◌+◌, ◌%◌, ◌^◌, ◌<◌, ◌≤◌};
 ghost use Rattle.arch.specs.Address.{rva};
 ghost use Rattle.layout.specs.Layout.{pages_to, next_start, start_at, undef_start, record_of, table_records};

@@ -1,4 +1,6 @@
 // Little-endian numbers in lent bytes: readers that see 0 past the end, writers that leave out what would lie there.
+#![tactic(auto)]
+
 ghost use Rattle.std.specs.Prelude.{◌≡◌, ◌+◌, ◌-◌, ◌*◌, min, get_or, replicate, [], ◌∷◌};
 ghost use Rattle.le.specs.Le.{get, le, part, splice};
 

@@ -1,4 +1,5 @@
 // Every limit of the loader, and the records of the tables that load writes, word by word; each number named once.
+#![tactic(auto)]
 
 // Bytes of a file (refusal 1).
 pub const MAX_FILE: usize = 4194304;

@@ -1,4 +1,6 @@
 // The lines of document 01's program, each put at the front of a lent buffer; the answer is how many of its bytes the line takes.
+#![tactic(auto)]
+
 ghost use Rattle.std.specs.Prelude.{◌++◌};
 ghost use Rattle.kinds.specs.Words.{kind_word};
 ghost use Rattle.text.specs.Text.{decimal_text, word, Puts};

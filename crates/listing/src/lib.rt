@@ -1,4 +1,6 @@
 // Line k of what document 01's program prints for a loaded object, put into a lent buffer.
+#![tactic(auto)]
+
 ghost use Rattle.std.specs.Prelude.{◌≡◌, ◌+◌, ◌*◌, ◌%◌, ◌^◌, ◌<◌, [], slice_index_or};
 ghost use Rattle.limits.specs.Records.{WORD, SECTION_WORDS, SECTION_START, SECTION_END, SECTION_FILE_START, SECTION_FILE_END, SECTION_PERMISSIONS, ADDRESS};
 ghost use Rattle.kinds.specs.Symbol.{kind_numbered};

@@ -1,4 +1,6 @@
 // The tables of fixups and of skips that load writes, as bytes: one pass over all relocations.
+#![tactic(auto)]
+
 ghost use Rattle.std.specs.Prelude.{◌≡◌, ◌*◌, ◌^◌, ◌<◌, ◌≤◌};
 ghost use Rattle.kinds.specs.Rows.{rows_of};
 ghost use Rattle.object.specs.Section.{relocation_count};
@@ -30,7 +32,7 @@ use object::{Header, Records};
 use targets::Skip;
 
 // How many records there are of fixups and of skips.
-#[derive(Drop)]
+#[derive(Clone, Copy)]
 struct Rows {
     fixups: u64,
     skips: u64,

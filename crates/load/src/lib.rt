@@ -1,4 +1,6 @@
 // Load: tables, marks and image into lent storage at a base, or a refusal that changes nothing.
+#![tactic(auto)]
+
 ghost use Rattle.storage.specs.Storage.{storage};
 ghost use Rattle.loading.specs.Load.{Loads};
 

@@ -2,7 +2,7 @@
 use survey::Counts;
 
 // Survey's counts, or the number of the refusal.
-#[derive(Drop)]
+#[derive(Clone, Copy)]
 pub enum Load {
     Loaded(Counts),
     Refused(u64),

@@ -1,4 +1,6 @@
 // Plan and writing in one: load, with the arrays for what the sections and symbols come to lent by the caller.
+#![tactic(auto)]
+
 mod answer;
 
 ghost use Rattle.object.specs.Format.{header_of};

@@ -1,4 +1,6 @@
 // The marks of mapped pages, from pagemap.rs: one bit a page, in 64-bit words. Asking for them, counting them, and putting those of the first pages.
+#![tactic(auto)]
+
 ghost use Rattle.std.specs.Prelude.{◌≡◌, ◌+◌, ◌-◌, ◌*◌, ◌%◌, ◌^◌, ◌<◌, count_ones};
 ghost use Rattle.le.specs.Le.{le, splice};
 ghost use Rattle.marks.specs.Marks.{WORD_PAGES, WORD_BYTES, words_for, word_at, marked, all_marked, page_count, mark_word, marks_put};

@@ -1,4 +1,6 @@
 // Questions to the section table, which lies in storage that the caller lends, one record a section; from module.rs.
+#![tactic(auto)]
+
 ghost use Rattle.std.specs.Prelude.{◌≡◌, ◌+◌, ◌*◌, ◌/◌, ◌^◌, ◌<◌, ◌≤◌, min, true, false};
 ghost use Rattle.refusal.specs.Refusal.{NO_ENTRY};
 ghost use Rattle.refusal.specs.declared.Number.TheVariants.{Value, Refusal};

@@ -1,4 +1,6 @@
 // The listed symbol that an address belongs to, of those whose home is one record of the section table.
+#![tactic(auto)]
+
 ghost use Rattle.std.specs.Prelude.{◌≡◌, ◌+◌, ◌*◌, ◌≤◌, ◌<◌, ◌^◌};
 ghost use Rattle.limits.specs.Records.{SYMBOL_BYTES, SYMBOL_WORDS};
 ghost use Rattle.words.specs.Words.{word_of};
@@ -9,14 +11,14 @@ use limits::{ADDRESS, SYMBOL_BYTES, SYMBOL_HOME, SYMBOL_WORDS, WORD};
 use refusal::NO_ROUTINE;
 
 // A symbol by its number in the list, from 0, and how far behind it the address lies.
-#[derive(Drop)]
+#[derive(Clone, Copy)]
 pub struct Routine {
     pub symbol: u64,
     pub distance: u64,
 }
 
 // The symbol, or the number of a refusal.
-#[derive(Drop)]
+#[derive(Clone, Copy)]
 pub enum RoutineAnswer {
     Found(Routine),
     Refused(u64),

@@ -1,5 +1,7 @@
 // The records of a COFF object, read from the standard; the Rust borrows the `object` crate for them.
 // A record past the end of the file reads as zeros, so that every reader is total.
+#![tactic(auto)]
+
 mod format;
 mod relocations;
 mod sections;
@@ -21,7 +23,7 @@ pub use symbol_records::{
 };
 
 // What the file header says: where the tables are, and how many records they have.
-#[derive(Drop)]
+#[derive(Clone, Copy)]
 pub struct Header {
     pub machine: u16,
     pub sections: u16,
@@ -31,7 +33,7 @@ pub struct Header {
 }
 
 // The relocations of a section: where their records stand, which record is relocation 0, and how many there are.
-#[derive(Drop)]
+#[derive(Clone, Copy)]
 pub struct Records {
     pub pointer: u32,
     pub first: u32,
@@ -39,7 +41,7 @@ pub struct Records {
 }
 
 // A relocation record.
-#[derive(Drop)]
+#[derive(Clone, Copy)]
 pub struct Relocation {
     pub address: u32,
     pub symbol: u32,
@@ -47,7 +49,7 @@ pub struct Relocation {
 }
 
 // What a symbol record says behind its name.
-#[derive(Drop)]
+#[derive(Clone, Copy)]
 pub struct Symbol {
     pub value: u32,
     pub number: u16,

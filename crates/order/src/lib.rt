@@ -1,4 +1,6 @@
 // The order of symbols' names, compared where they stand: no name is walked for its length alone, most are told apart by a key.
+#![tactic(auto)]
+
 ghost use Rattle.std.specs.Prelude.{◌≡◌, ◌+◌, ◌*◌, ◌^◌, ◌<◌, min};
 ghost use Rattle.names.specs.Bytes.{up_to_zero, compare_bytes};
 ghost use Rattle.names.specs.Name.{span_text};

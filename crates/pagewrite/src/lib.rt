@@ -1,4 +1,6 @@
 // Page writes, from pagemap.rs: whole pages in lent storage, each marked as mapped. All that can be refused is tested before a byte or a mark changes.
+#![tactic(auto)]
+
 mod marking;
 mod refusals;
 

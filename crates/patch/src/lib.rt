@@ -1,4 +1,6 @@
 // Patch: the fixups of a portion of the list, written over the image.
+#![tactic(auto)]
+
 mod answer;
 
 ghost use Rattle.std.specs.Prelude.{◌≡◌, ◌+◌, ◌%◌, ◌^◌, ◌<◌, ◌≤◌, true, length};

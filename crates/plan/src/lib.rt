@@ -1,4 +1,6 @@
 // The plan of a load, made before a lent buffer is touched: 12, survey's refusals, 13, or the counts. What it finds stays in the caller's arrays.
+#![tactic(auto)]
+
 ghost use Rattle.std.specs.Prelude.{◌≡◌, ◌≤◌, length};
 ghost use Rattle.limits.specs.Limits.{MAX_PAGES, EXTERN_ROOM};
 ghost use Rattle.arch.specs.Address.{rva};
@@ -14,7 +16,7 @@ use object::Header;
 use survey::{Counts, Survey};
 
 // The bytes of each lent buffer.
-#[derive(Drop)]
+#[derive(Clone, Copy)]
 pub struct Lengths {
     pub image: usize,
     pub marks: usize,
@@ -26,7 +28,7 @@ pub struct Lengths {
 }
 
 // What is known before a buffer is touched: a refusal, or the counts and how many extern names there are.
-#[derive(Drop)]
+#[derive(Clone, Copy)]
 pub enum Plan {
     Refused(u64),
     Ready(Counts, usize),

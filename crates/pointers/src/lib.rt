@@ -1,4 +1,6 @@
 // Pointers of the image, of the machine's pointer size: an address or an offset from the base, at either of the two.
+#![tactic(auto)]
+
 ghost use Rattle.std.specs.Prelude.{◌≡◌};
 ghost use Rattle.answers.specs.Answers.{as_address, as_offset};
 ghost use Rattle.arch.specs.Machine.{pointer_size};

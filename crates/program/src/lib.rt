@@ -1,4 +1,6 @@
 // Document 01's program on one object: loaded at 0x20000000, patched fully, and listed on standard output.
+#![tactic(auto)]
+
 mod written;
 
 ghost use Rattle.std.specs.Prelude.{◌≡◌, ◌+◌, ◌*◌, ◌≤◌, ◌<◌};

@@ -3,7 +3,7 @@ ghost use Rattle.std.specs.Prelude.{◌≡◌, ◌+◌};
 ghost use Rattle.program.specs.Holding.{Said};
 
 // Its field is private: a count comes from `none` and `say` alone.
-#[derive(Drop)]
+#[derive(Clone, Copy)]
 pub struct Written {
     lines: u32,
 }

@@ -1,4 +1,6 @@
 // The sections of a file in order of their names, by merging: a section is then found by its name in halves.
+#![tactic(auto)]
+
 ghost use Rattle.std.specs.Prelude.{◌≡◌, ℕ, ◌+◌, ◌*◌, ◌≤◌, ◌<◌, min, length, drop};
 ghost use Rattle.le.specs.Le.{part, splice};
 ghost use Rattle.names.specs.Name.{section_text};

@@ -1,4 +1,6 @@
 // The numbers of the refusals, each named once, and the answer of an operation that only writes.
+#![tactic(auto)]
+
 ghost use Rattle.std.specs.Prelude.{◌≡◌};
 ghost use Rattle.refusal.specs.Refusal.{done_of, number_of};
 
@@ -72,14 +74,14 @@ pub const RAW_DATA: u64 = 22;
 pub const OVERLAP: u64 = 23;
 
 // What an operation says that only writes: done, or the number of its refusal.
-#[derive(Drop)]
+#[derive(Clone, Copy)]
 pub enum Answer {
     Done,
     Refused(u64),
 }
 
 // What an operation says that answers a number.
-#[derive(Drop)]
+#[derive(Clone, Copy)]
 pub enum Number {
     Value(u64),
     Refusal(u64),

@@ -1,4 +1,6 @@
 // The results of survey, load, patch and the routine question as records of words.
+#![tactic(auto)]
+
 ghost use Rattle.std.specs.Prelude.{◌≡◌};
 ghost use Rattle.util.specs.Pick.{pick};
 ghost use Rattle.le.specs.Le.{splice};

@@ -1,5 +1,7 @@
 // What is looked for when a relocation names a symbol, by the symbol's kind and place: one grid for extern names and for targets, from
 // get_coff_extern_names and get_coff_fixups.
+#![tactic(auto)]
+
 ghost use Rattle.std.specs.Prelude.{◌≡◌};
 ghost use Rattle.rules.specs.Rule.{data_rule, section_rule, label_rule, unknown_rule, rule_of};
 
@@ -7,7 +9,7 @@ use kinds::{Place, SymbolKind};
 
 // The home of the section of that number; a slot for the name, which goes among the externs; its slot, if it is there; the section of its
 // name, else the slot; or refusal 10.
-#[derive(Drop)]
+#[derive(Clone, Copy)]
 pub enum Rule {
     Section(u32),
     Extern,

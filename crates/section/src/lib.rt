@@ -1,4 +1,6 @@
 // A record of the section table, and what is asked of one record.
+#![tactic(auto)]
+
 ghost use Rattle.std.specs.Prelude.{◌≡◌};
 ghost use Rattle.section.specs.Section.{
   within,
@@ -18,7 +20,7 @@ use refusal::Number;
 
 // A record of the section table: its range in memory, its range in the file, read 1, write 2 and execute 4 added,
 // where its name stands in the file, and its number there, 0 for UNDEF.
-#[derive(Drop)]
+#[derive(Clone, Copy)]
 pub struct Section {
     pub start: VA,
     pub end: VA,
@@ -31,14 +33,14 @@ pub struct Section {
 }
 
 // What is asked about an address: one of these permissions, read 1, write 2 and execute 4 added.
-#[derive(Drop)]
+#[derive(Clone, Copy)]
 pub struct Probe {
     pub va: VA,
     pub permissions: u64,
 }
 
 // The same about an offset from the base.
-#[derive(Drop)]
+#[derive(Clone, Copy)]
 pub struct OffsetProbe {
     pub base: VA,
     pub rva: RVA,

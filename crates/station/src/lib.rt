@@ -1,6 +1,8 @@
 // What the station's host calls from C: survey, load, patch, read and the routine of an address, on numbers and lent bytes. Each answers 0 or the number of its
 // refusal; what else there is to say goes to the front of a lent buffer, as words (docs/HOST.md). Too short a buffer for that is 13, where 13
 // stands in the operation's order, and then nothing is written.
+#![tactic(auto)]
+
 ghost use Rattle.std.specs.Prelude.{◌≡◌};
 ghost use Rattle.storage.specs.Storage.{storage};
 ghost use Rattle.station.specs.Station.{

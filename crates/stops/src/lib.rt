@@ -1,5 +1,7 @@
 // Long names without walking them. Names may share bytes of the string table, so to walk each to its end could take names times bytes. Here one pass notes where the
 // characters from each block's start stop, and then a name costs a block at most. `section` says whose names: a section's may be empty, and has visible bytes alone.
+#![tactic(auto)]
+
 ghost use Rattle.std.specs.Prelude.{◌≡◌, ◌-◌, ◌*◌, ◌/◌, ◌+◌, ◌<◌, ◌≤◌, ◌^◌, length};
 ghost use Rattle.le.specs.Le.{splice};
 ghost use Rattle.names.specs.Name.{is_good};

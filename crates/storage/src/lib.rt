@@ -1,4 +1,6 @@
 // What a load writes: tables, lists, marks and image into lent storage that has room for them.
+#![tactic(auto)]
+
 ghost use Rattle.std.specs.Prelude.{◌≡◌};
 ghost use Rattle.le.specs.Le.{part};
 ghost use Rattle.object.specs.Format.{header_of};

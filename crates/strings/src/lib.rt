@@ -1,4 +1,6 @@
 // Strings in the image, from aspace.rs: by offset, by address and from the start of a slice.
+#![tactic(auto)]
+
 ghost use Rattle.std.specs.Prelude.{◌≡◌};
 ghost use Rattle.util.specs.Pick.{pick};
 ghost use Rattle.refusal.specs.Refusal.{STORAGE, NOT_MAPPED};
@@ -9,7 +11,7 @@ use arch::{Offset, RVA, VA};
 use refusal::{NOT_MAPPED, STORAGE};
 
 // Where a string starts and how long it is; or it is shorter than was asked for; or refused.
-#[derive(Drop)]
+#[derive(Clone, Copy)]
 pub enum Ascii {
     Text(RVA, u64),
     TooShort,

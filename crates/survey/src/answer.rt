@@ -1,7 +1,7 @@
 // What survey answers.
 // How much load will need, and the file's own numbers: mapped pages, records of the section table with UNDEF's, listed symbols, extern names,
 // fixups, skipped and passed relocations; the file's section records, symbol records and relocations.
-#[derive(Drop)]
+#[derive(Clone, Copy)]
 pub struct Counts {
     pub pages: u64,
     pub sections: u64,
@@ -16,7 +16,7 @@ pub struct Counts {
 }
 
 // The counts of a file that passes every check, or the number of the first refusal.
-#[derive(Drop)]
+#[derive(Clone, Copy)]
 pub enum Survey {
     Accepted(Counts),
     Refused(u64),

@@ -1,4 +1,6 @@
 // Survey: counts what a file needs, or says the first refusal that applies. It changes nothing.
+#![tactic(auto)]
+
 mod answer;
 
 ghost use Rattle.std.specs.Prelude.{◌≡◌, true, false, ◌+◌, ◌^◌, ◌≤◌, ◌<◌};

@@ -1,4 +1,6 @@
 // The symbol table that load writes, as bytes: records of whole words. The crate `homes` says which symbols are listed, and where.
+#![tactic(auto)]
+
 ghost use Rattle.std.specs.Prelude.{◌≡◌, ◌*◌, false};
 ghost use Rattle.limits.specs.Records.{SYMBOL_BYTES};
 ghost use Rattle.le.specs.Le.{splice};

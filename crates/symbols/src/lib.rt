@@ -1,4 +1,6 @@
 // Questions to the tables of symbols and of extern names that load wrote. Numbers are those of the records, from 0.
+#![tactic(auto)]
+
 ghost use Rattle.std.specs.Prelude.{◌≡◌, ◌+◌, ◌*◌, ◌≤◌, ◌<◌, ◌^◌};
 ghost use Rattle.limits.specs.Records.{SYMBOL_BYTES, EXTERN_BYTES, WORD, SYMBOL_WORDS, EXTERN_WORDS, NAME_LENGTH};
 ghost use Rattle.words.specs.Words.{word_of};
@@ -26,7 +28,7 @@ use limits::{
 use refusal::{NO_ENTRY, Number};
 
 // A record of the symbol table, as docs/HOST.md has it.
-#[derive(Drop)]
+#[derive(Clone, Copy)]
 pub struct Symbol {
     pub address: VA,
     pub kind: u64,
@@ -37,7 +39,7 @@ pub struct Symbol {
 }
 
 // A record of the table of extern names.
-#[derive(Drop)]
+#[derive(Clone, Copy)]
 pub struct Extern {
     pub address: VA,
     pub number: u64,
@@ -46,14 +48,14 @@ pub struct Extern {
 }
 
 // A record, or the number of a refusal.
-#[derive(Drop)]
+#[derive(Clone, Copy)]
 pub enum SymbolAnswer {
     Entry(Symbol),
     Refused(u64),
 }
 
 // The same for an extern name.
-#[derive(Drop)]
+#[derive(Clone, Copy)]
 pub enum ExternAnswer {
     Entry(Extern),
     Refused(u64),

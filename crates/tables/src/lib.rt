@@ -1,4 +1,6 @@
 // The tables of sections and of extern names that load writes, as bytes: records of whole words.
+#![tactic(auto)]
+
 mod externs_table;
 mod sections;
 

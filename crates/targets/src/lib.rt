@@ -1,4 +1,6 @@
 // What a relocation's symbol comes to: an offset from the base, a reason to skip, or a refusal.
+#![tactic(auto)]
+
 ghost use Rattle.std.specs.Prelude.{◌≡◌};
 ghost use Rattle.arch.specs.declared.Offset.TheVariants.{None};
 ghost use Rattle.homes.specs.Home.{by_number, home_in};
@@ -8,7 +10,7 @@ ghost use Rattle.targets.specs.Table.{plain_target, code_target, target_in};
 use arch::{Offset, RVA};
 
 // Why a relocation is skipped: K1 to K4.
-#[derive(Drop)]
+#[derive(Clone, Copy)]
 pub enum Skip {
     NoSymbol,
     NoHome,
@@ -17,7 +19,7 @@ pub enum Skip {
 }
 
 // What a symbol comes to: its section's home, a section found by name, a slot; a reason to skip; or a refusal.
-#[derive(Drop)]
+#[derive(Clone, Copy)]
 pub enum Target {
     Home(RVA),
     Named(RVA),

@@ -2,6 +2,8 @@
 // and its bytes as pairs of hexadecimal digits, `-` for none. `file` prepares the bytes that `le`, `object` and `names` are asked of. A line that begins with
 // `--` says what the next ones are about. Each line is written again, and behind a question ` =` and the answer, its numbers in hexadecimal; where there is
 // none, `no`. What is known of where the answers come from is docs/DECISIONS.md 58.
+#![tactic(auto)]
+
 mod bytes;
 mod kinds_said;
 mod numbers;

@@ -1,6 +1,8 @@
 // Loads each object of standard input at 0x20000000 and asks the module's questions at every boundary of its tables. An object is
 // a 32-bit little-endian length and then its bytes.
 // The expected output is not this program's: a script answered the same questions from the reference model's tables.
+#![tactic(auto)]
+
 mod ask;
 mod boundary;
 mod listed;

@@ -3,6 +3,8 @@
 // answer behind it, except `lines` and `tables`, for which stand what the program prints and the lines of load's tables.
 // The answers are a reference model's, the original's (`original-`) or worked out by hand from document 01 (`empty-`); `make` puts the two files together,
 // and docs/DECISIONS.md 58 says where they come from.
+#![tactic(auto)]
+
 mod act;
 mod lend;
 mod say;

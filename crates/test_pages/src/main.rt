@@ -2,11 +2,13 @@
 // numbers. Lines of `lent`, `image`, `marks`, `given` and `fix` prepare what is lent; a heading behind `--` and an empty line ask nothing. Each line
 // is written again and behind it the answer, so the output is the input with its answers. What is known of where
 // those come from is docs/DECISIONS.md 58.
+#![tactic(auto)]
+
 mod pages;
 mod patches;
 
 // How many bytes of image and marks are lent.
-#[derive(Drop)]
+#[derive(Clone, Copy)]
 struct Lent {
     image: u64,
     marks: u64,

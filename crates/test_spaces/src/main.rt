@@ -1,13 +1,15 @@
 // The spaces over lent pages, at their edges. A line of standard input is a question: word 0 its subject, word 1 the function, then numbers. Lines
 // of `lent` and `image` prepare what is lent; a heading behind `--` and an empty line ask nothing. Each line is written again and behind it the
 // answer, so the output is the input with its answers. What is known of where those come from is docs/DECISIONS.md 58.
+#![tactic(auto)]
+
 mod by_address;
 mod by_offset;
 mod from_start;
 mod reads;
 
 // How many bytes of image and marks are lent.
-#[derive(Drop)]
+#[derive(Clone, Copy)]
 struct Lent {
     image: u64,
     marks: u64,

@@ -1,4 +1,6 @@
 // Numbers, permissions and words put into a lent buffer. Each function answers the place behind what it put.
+#![tactic(auto)]
+
 ghost use Rattle.std.specs.Prelude.{◌≡◌, [], ◌∷◌, ◌++◌, ◌%◌, ◌≤◌};
 ghost use Rattle.text.specs.Text.{glyph, number, decimal_text, hex_text, signed_text, letter_or as mark_of, permissions_text, word, Puts};
 

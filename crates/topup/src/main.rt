@@ -1,4 +1,5 @@
 // Document 01's program: the object of standard input, loaded, patched and listed.
+#![tactic(auto)]
 
 fn main() {
     let mut file = [0u8; program::FILE_ROOM];

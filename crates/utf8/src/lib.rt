@@ -1,4 +1,6 @@
 // Characters of UTF-8, as RFC 3629 has them.
+#![tactic(auto)]
+
 ghost use Rattle.std.specs.Prelude.{◌≡◌, get_or};
 ghost use Rattle.utf8.specs.Utf8.{holds, TAIL, long_length};
 ghost use Rattle.utf8.specs.First.{second_low, second_high, SECOND, two_by, three_by, four_by};

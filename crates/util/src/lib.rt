@@ -1,5 +1,7 @@
 // Rounding up, from util.rs, and what every layer shares: two tests as one, a choice by a test, recursion over the numbers below n, the fold over
 // relocations.
+#![tactic(auto)]
+
 ghost use Rattle.std.specs.Prelude.{◌≡◌, ◌+◌, ◌%◌, ◌^◌, max, ◌&&◌, ◌||◌, nat_le};
 ghost use Rattle.util.specs.Align.{round_up};
 

@@ -2,7 +2,7 @@
 use survey::Counts;
 
 // Too large for the program, refused with its number, or the lines of a load with these counts.
-#[derive(Drop)]
+#[derive(Clone, Copy)]
 pub enum Verdict {
     TooLarge,
     Refused(u64),

@@ -1,4 +1,6 @@
 // Which of its three outputs document 01's program prints for a file.
+#![tactic(auto)]
+
 mod answer;
 
 ghost use Rattle.std.specs.Prelude.{◌≡◌};

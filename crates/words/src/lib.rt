@@ -1,4 +1,6 @@
 // Records of whole words, eight bytes each, the low byte first. A word that would begin past the end is left out.
+#![tactic(auto)]
+
 ghost use Rattle.std.specs.Prelude.{◌≡◌, ◌+◌, ◌-◌, ◌*◌, ◌/◌, ◌≤◌, min, leb, length};
 ghost use Rattle.limits.specs.Records.{WORD};
 ghost use Rattle.le.specs.Le.{le, splice};

@@ -1,4 +1,6 @@
 // Writing by offset and by address into mapped pages; from aspace.rs. All that can be refused is tested before a byte changes.
+#![tactic(auto)]
+
 pub mod absolute;
 pub mod relative;
 
