@@ -7,10 +7,10 @@ use native.Mathlib.Omega.{arith}
 use Rattle.le.proofs.put.Statement.{statement}
 use Rattle.le.proofs.put.Tie as tie
 
-abbrev invariant-loop : tie.invariant-loop
+abbrev invariant-loop : tie.invariant-loop-i
 invariant-loop b₀ at n v m i₀ w₀ b i w = (i ≤ m) × (w ≡ v / 256 ^ i) × Putting b₀ at (le n v) i b
 
-abbrev decreases-loop : tie.decreases-loop
+abbrev decreases-loop : tie.decreases-loop-i
 decreases-loop b₀ at n v m i₀ w₀ b i w = m - i
 
 pub put_spec : {M : Type 1} → statement M

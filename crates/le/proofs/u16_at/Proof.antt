@@ -13,4 +13,4 @@ u16_at_spec =
     (λ c. search rules)
     (λ c. search rules)
     (λ c. simp get2 (omega arith))
-    (λ c. get_past 2 _ _ c.if1.false))
+    (λ c. get_past 2 _ _ c.if-at-s.false))

@@ -27,4 +27,4 @@ u32_at_spec =
     (λ c. search rules)
     (λ c. simp get4 (omega arith))
     (λ c. simp get4 (omega arith))
-    (λ c. get_past 4 _ _ c.if1.false))
+    (λ c. get_past 4 _ _ c.if-at-n.false))

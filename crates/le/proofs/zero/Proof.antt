@@ -6,10 +6,10 @@ use native.Mathlib.Omega.{arith}
 use Rattle.le.proofs.zero.Statement.{statement}
 use Rattle.le.proofs.zero.Tie as tie
 
-abbrev invariant-loop : tie.invariant-loop
+abbrev invariant-loop : tie.invariant-loop-i
 invariant-loop b₀ at n m i₀ b i = (i ≤ m) × Putting b₀ at (replicate n 0) i b
 
-abbrev decreases-loop : tie.decreases-loop
+abbrev decreases-loop : tie.decreases-loop-i
 decreases-loop b₀ at n m i₀ b i = m - i
 
 pub zero_spec : {M : Type 1} → statement M
