@@ -5,18 +5,18 @@ use lib.ListN.{length}
 use Rattle.bench_survey.proofs.objects.Statement.{statement}
 use Rattle.bench_survey.proofs.objects.Tie as tie
 
-abbrev invariant-loop : tie.invariant-loop
-invariant-loop numbers n buffer₀ i₀ buffer i = length buffer ≡ length buffer₀
+abbrev invariant-loop-i : tie.invariant-loop-i
+invariant-loop-i numbers n buffer₀ i₀ buffer i = length buffer ≡ length buffer₀
 
-abbrev decreases-loop : tie.decreases-loop
-decreases-loop numbers n buffer₀ i₀ buffer i = n - i
+abbrev decreases-loop-i : tie.decreases-loop-i
+decreases-loop-i numbers n buffer₀ i₀ buffer i = n - i
 
 pub objects_spec : {M : Type 1} → statement M
 objects_spec =
     tie.close
     (tie.spec
-    invariant-loop
-    decreases-loop
+    invariant-loop-i
+    decreases-loop-i
     (λ c. search rules)
     (λ c. search rules)
     (λ c. search rules)

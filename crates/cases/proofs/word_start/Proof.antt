@@ -2,18 +2,18 @@ use Rattle.std.proofs.Common.{◌-◌, ◌<◌, length, rules}
 use Rattle.cases.proofs.word_start.Statement.{statement}
 use Rattle.cases.proofs.word_start.Tie as tie
 
-abbrev invariant-loop : tie.invariant-loop
-invariant-loop line k left₀ i₀ left i = left < 256
+abbrev invariant-loop-i : tie.invariant-loop-i
+invariant-loop-i line k left₀ i₀ left i = left < 256
 
-abbrev decreases-loop : tie.decreases-loop
-decreases-loop line k left₀ i₀ left i = length line - i
+abbrev decreases-loop-i : tie.decreases-loop-i
+decreases-loop-i line k left₀ i₀ left i = length line - i
 
 pub word_start_spec : {M : Type 1} → statement M
 word_start_spec =
     tie.close
     (tie.spec
-    invariant-loop
-    decreases-loop
+    invariant-loop-i
+    decreases-loop-i
     (λ c. search rules)
     (λ c. search rules)
     (λ c. search rules)

@@ -7,18 +7,18 @@ use Rattle.chars.proofs.Laws.{seen, eight_loop}
 use Rattle.chars.proofs.eight_visible.Statement.{statement}
 use Rattle.chars.proofs.eight_visible.Tie as tie
 
-abbrev invariant-loop : tie.invariant-loop
-invariant-loop s ok₀ k₀ ok k = (k ≤ EIGHT) × (ok ≡ all_to (seen s) k)
+abbrev invariant-loop-k : tie.invariant-loop-k
+invariant-loop-k s ok₀ k₀ ok k = (k ≤ EIGHT) × (ok ≡ all_to (seen s) k)
 
-abbrev decreases-loop : tie.decreases-loop
-decreases-loop s ok₀ k₀ ok k = EIGHT - k
+abbrev decreases-loop-k : tie.decreases-loop-k
+decreases-loop-k s ok₀ k₀ ok k = EIGHT - k
 
 pub eight_visible_spec : {M : Type 1} → statement M
 eight_visible_spec =
     tie.close
     (tie.spec
-    invariant-loop
-    decreases-loop
+    invariant-loop-k
+    decreases-loop-k
     (λ c. search (rules, eight_loop))
     (λ c. search (rules, eight_loop))
     (λ c. search (rules, eight_loop))

@@ -7,18 +7,18 @@ use Rattle.chars.specs.Chars.{walk}
 use Rattle.chars.proofs.walk_on.Statement.{statement}
 use Rattle.chars.proofs.walk_on.Tie as tie
 
-abbrev invariant-loop : tie.invariant-loop
-invariant-loop t i e k₀ k = (i ≤ k) × (walk false t e k ≡ walk false t e i)
+abbrev invariant-loop-k : tie.invariant-loop-k
+invariant-loop-k t i e k₀ k = (i ≤ k) × (walk false t e k ≡ walk false t e i)
 
-abbrev decreases-loop : tie.decreases-loop
-decreases-loop t i e k₀ k = e - k
+abbrev decreases-loop-k : tie.decreases-loop-k
+decreases-loop-k t i e k₀ k = e - k
 
 pub walk_on_spec : {M : Type 1} → statement M
 walk_on_spec =
     tie.close
     (tie.spec
-    invariant-loop
-    decreases-loop
+    invariant-loop-k
+    decreases-loop-k
     (λ c. search (rules, on_loop))
     (λ c. search (rules, on_loop))
     (λ c. search (rules, on_loop))

@@ -10,4 +10,4 @@ code_at_spec =
     (λ c. search rules)
     (λ c. search rules)
     (λ c. search rules)
-    (λ c. let h = c.if1.false in simp get_or-eq_default))
+    (λ c. let h = c.if-at-codes.false in simp get_or-eq_default))

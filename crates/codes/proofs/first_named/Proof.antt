@@ -6,18 +6,18 @@ use Rattle.ranks.specs.Search.{lower_than, Halved, halves_loop}
 use Rattle.codes.proofs.first_named.Statement.{statement}
 use Rattle.codes.proofs.first_named.Tie as tie
 
-abbrev invariant-loop : tie.invariant-loop
-invariant-loop f h ranks name lo₀ n₀ lo n = (lo + n ≤ length ranks) × Halved (lower_than (section_text f h) (span_text f name)) ranks lo n
+abbrev invariant-loop-n : tie.invariant-loop-n
+invariant-loop-n f h ranks name lo₀ n₀ lo n = (lo + n ≤ length ranks) × Halved (lower_than (section_text f h) (span_text f name)) ranks lo n
 
-abbrev decreases-loop : tie.decreases-loop
-decreases-loop f h ranks name lo₀ n₀ lo n = n
+abbrev decreases-loop-n : tie.decreases-loop-n
+decreases-loop-n f h ranks name lo₀ n₀ lo n = n
 
 pub first_named_spec : {M : Type 1} → statement M
 first_named_spec =
     tie.close
     (tie.spec
-    invariant-loop
-    decreases-loop
+    invariant-loop-n
+    decreases-loop-n
     (λ c. search (rules, halves_loop))
     (λ c. search (rules, halves_loop))
     (λ c. search (rules, halves_loop))

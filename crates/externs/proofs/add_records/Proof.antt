@@ -12,18 +12,18 @@ use Rattle.codes.specs.Code.{puts_in}
 use Rattle.externs.proofs.add_records.Statement.{statement}
 use Rattle.externs.proofs.add_records.Tie as tie
 
-abbrev invariant-loop : tie.invariant-loop
-invariant-loop f h codes₀ slots₀ keys₀ n i records bytes m count₀ k₀ codes slots keys count k = (k ≤ m) × (count ≤ MAX_EXTERNS) × (MAX_EXTERNS < length slots) × (length slots ≡ length slots₀) × (MAX_EXTERNS < length keys) × (length keys ≡ length keys₀) × (length codes ≡ length codes₀) × Kept f h slots keys count × Spends f h codes₀ codes (held count slots) × (held count slots ≡ extern_records f h (puts_in codes₀) i (held n slots₀) k)
+abbrev invariant-loop-k : tie.invariant-loop-k
+invariant-loop-k f h codes₀ slots₀ keys₀ n i records bytes m count₀ k₀ codes slots keys count k = (k ≤ m) × (count ≤ MAX_EXTERNS) × (MAX_EXTERNS < length slots) × (length slots ≡ length slots₀) × (MAX_EXTERNS < length keys) × (length keys ≡ length keys₀) × (length codes ≡ length codes₀) × Kept f h slots keys count × Spends f h codes₀ codes (held count slots) × (held count slots ≡ extern_records f h (puts_in codes₀) i (held n slots₀) k)
 
-abbrev decreases-loop : tie.decreases-loop
-decreases-loop f h codes₀ slots₀ keys₀ n i records bytes m count₀ k₀ codes slots keys count k = m - k
+abbrev decreases-loop-k : tie.decreases-loop-k
+decreases-loop-k f h codes₀ slots₀ keys₀ n i records bytes m count₀ k₀ codes slots keys count k = m - k
 
 pub add_records_spec : {M : Type 1} → statement M
 add_records_spec =
     tie.close
     (tie.spec
-    invariant-loop
-    decreases-loop
+    invariant-loop-k
+    decreases-loop-k
     (λ c κs. search rules)
     (λ c κs. search rules)
     (λ c. search rules)

@@ -7,18 +7,18 @@ use Rattle.le.specs.Le.{splice, splice_long}
 use Rattle.externs.proofs.clear.Statement.{statement}
 use Rattle.externs.proofs.clear.Tie as tie
 
-abbrev invariant-loop : tie.invariant-loop
-invariant-loop slots₀ from n i₀ slots i = (from ≤ i) × (i - from ≤ n - from) × (slots ≡ splice slots₀ from (replicate (i - from) 0))
+abbrev invariant-loop-i : tie.invariant-loop-i
+invariant-loop-i slots₀ from n i₀ slots i = (from ≤ i) × (i - from ≤ n - from) × (slots ≡ splice slots₀ from (replicate (i - from) 0))
 
-abbrev decreases-loop : tie.decreases-loop
-decreases-loop slots₀ from n i₀ slots i = n - i
+abbrev decreases-loop-i : tie.decreases-loop-i
+decreases-loop-i slots₀ from n i₀ slots i = n - i
 
 pub clear_spec : {M : Type 1} → statement M
 clear_spec =
     tie.close
     (tie.spec
-    invariant-loop
-    decreases-loop
+    invariant-loop-i
+    decreases-loop-i
     (λ c. search (rules, clear_loop, splice_long))
     (λ c. search (rules, clear_loop, splice_long))
     (λ c. search (rules, clear_loop, splice_long))

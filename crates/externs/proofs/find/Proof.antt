@@ -6,18 +6,18 @@ use Rattle.externs.specs.Held.{held}
 use Rattle.externs.proofs.find.Statement.{statement}
 use Rattle.externs.proofs.find.Tie as tie
 
-abbrev invariant-loop : tie.invariant-loop
-invariant-loop f h slots keys n j key name p₀ p = (p ≤ n) × Passed f h j (held n slots) p
+abbrev invariant-loop-p : tie.invariant-loop-p
+invariant-loop-p f h slots keys n j key name p₀ p = (p ≤ n) × Passed f h j (held n slots) p
 
-abbrev decreases-loop : tie.decreases-loop
-decreases-loop f h slots keys n j key name p₀ p = n - p
+abbrev decreases-loop-p : tie.decreases-loop-p
+decreases-loop-p f h slots keys n j key name p₀ p = n - p
 
 pub find_spec : {M : Type 1} → statement M
 find_spec =
     tie.close
     (tie.spec
-    invariant-loop
-    decreases-loop
+    invariant-loop-p
+    decreases-loop-p
     (λ c. search (rules, spot_loop, spot_keys))
     (λ c. search (rules, spot_loop, spot_keys))
     (λ c. search (rules, spot_loop, spot_keys))

@@ -6,18 +6,18 @@ use Rattle.externs.specs.Spent.{Passing}
 use Rattle.externs.proofs.pass.Statement.{statement}
 use Rattle.externs.proofs.pass.Tie as tie
 
-abbrev invariant-loop : tie.invariant-loop
-invariant-loop t codes k n q₀ q = Passing t codes k q
+abbrev invariant-loop-q : tie.invariant-loop-q
+invariant-loop-q t codes k n q₀ q = Passing t codes k q
 
-abbrev decreases-loop : tie.decreases-loop
-decreases-loop t codes k n q₀ q = n - q
+abbrev decreases-loop-q : tie.decreases-loop-q
+decreases-loop-q t codes k n q₀ q = n - q
 
 pub pass_spec : {M : Type 1} → statement M
 pass_spec =
     tie.close
     (tie.spec
-    invariant-loop
-    decreases-loop
+    invariant-loop-q
+    decreases-loop-q
     (λ c. search (rules, pass_loop))
     (λ c. omega arith)
     (λ c. omega arith)

@@ -7,18 +7,18 @@ use Rattle.externs.specs.Slotted.{slotted_to}
 use Rattle.externs.proofs.put_slots.Statement.{statement}
 use Rattle.externs.proofs.put_slots.Tie as tie
 
-abbrev invariant-loop : tie.invariant-loop
-invariant-loop f h slots keys codes₀ m j₀ codes j = (j ≤ m) × (codes ≡ splice codes₀ 0 (slotted_to f h slots codes₀ j))
+abbrev invariant-loop-j : tie.invariant-loop-j
+invariant-loop-j f h slots keys codes₀ m j₀ codes j = (j ≤ m) × (codes ≡ splice codes₀ 0 (slotted_to f h slots codes₀ j))
 
-abbrev decreases-loop : tie.decreases-loop
-decreases-loop f h slots keys codes₀ m j₀ codes j = m - j
+abbrev decreases-loop-j : tie.decreases-loop-j
+decreases-loop-j f h slots keys codes₀ m j₀ codes j = m - j
 
 pub put_slots_spec : {M : Type 1} → statement M
 put_slots_spec =
     tie.close
     (tie.spec
-    invariant-loop
-    decreases-loop
+    invariant-loop-j
+    decreases-loop-j
     (λ c. search (rules, slots_loop, splice_long))
     (λ c. search (rules, slots_loop, splice_long))
     (λ c. search (rules, slots_loop, splice_long))

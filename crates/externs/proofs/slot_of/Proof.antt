@@ -9,18 +9,18 @@ use Rattle.externs.specs.Slot.{slot_of}
 use Rattle.externs.proofs.slot_of.Statement.{statement}
 use Rattle.externs.proofs.slot_of.Tie as tie
 
-abbrev invariant-loop : tie.invariant-loop
-invariant-loop f h slots keys j name key lo₀ n₀ lo n = (lo + n ≤ length slots) × (halves f h slots (span_text f name) n lo n ≡ slot_of f h slots (symbol_text f h j))
+abbrev invariant-loop-n : tie.invariant-loop-n
+invariant-loop-n f h slots keys j name key lo₀ n₀ lo n = (lo + n ≤ length slots) × (halves f h slots (span_text f name) n lo n ≡ slot_of f h slots (symbol_text f h j))
 
-abbrev decreases-loop : tie.decreases-loop
-decreases-loop f h slots keys j name key lo₀ n₀ lo n = n
+abbrev decreases-loop-n : tie.decreases-loop-n
+decreases-loop-n f h slots keys j name key lo₀ n₀ lo n = n
 
 pub slot_of_spec : {M : Type 1} → statement M
 slot_of_spec =
     tie.close
     (tie.spec
-    invariant-loop
-    decreases-loop
+    invariant-loop-n
+    decreases-loop-n
     (λ c. search (rules, half_loop))
     (λ c. search (rules, half_loop))
     (λ c. search (rules, half_loop))

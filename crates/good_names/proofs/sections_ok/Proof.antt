@@ -7,18 +7,18 @@ use Rattle.good_names.specs.GoodNames.{section_name_ok}
 use Rattle.good_names.proofs.sections_ok.Statement.{statement}
 use Rattle.good_names.proofs.sections_ok.Tie as tie
 
-abbrev invariant-loop : tie.invariant-loop
-invariant-loop f h stops n i₀ i = (i ≤ n) × (all_to (section_name_ok f h) i ≡ true)
+abbrev invariant-loop-i : tie.invariant-loop-i
+invariant-loop-i f h stops n i₀ i = (i ≤ n) × (all_to (section_name_ok f h) i ≡ true)
 
-abbrev decreases-loop : tie.decreases-loop
-decreases-loop f h stops n i₀ i = n - i
+abbrev decreases-loop-i : tie.decreases-loop-i
+decreases-loop-i f h stops n i₀ i = n - i
 
 pub sections_ok_spec : {M : Type 1} → statement M
 sections_ok_spec =
     tie.close
     (tie.spec
-    invariant-loop
-    decreases-loop
+    invariant-loop-i
+    decreases-loop-i
     (λ c. search (rules, all_loop))
     (λ c. search (rules, all_loop))
     (λ c. search (rules, all_loop))

@@ -10,18 +10,18 @@ use Rattle.good_names.specs.GoodNames.{name_ok}
 use Rattle.good_names.proofs.symbols_ok.Statement.{statement}
 use Rattle.good_names.proofs.symbols_ok.Tie as tie
 
-abbrev invariant-loop : tie.invariant-loop
-invariant-loop f h stops n left₀ j₀ left j = (j ≤ n) × (left ≡ auxiliaries_left f h j) × (all_to (ok_at name_ok f h) j ≡ true)
+abbrev invariant-loop-j : tie.invariant-loop-j
+invariant-loop-j f h stops n left₀ j₀ left j = (j ≤ n) × (left ≡ auxiliaries_left f h j) × (all_to (ok_at name_ok f h) j ≡ true)
 
-abbrev decreases-loop : tie.decreases-loop
-decreases-loop f h stops n left₀ j₀ left j = n - j
+abbrev decreases-loop-j : tie.decreases-loop-j
+decreases-loop-j f h stops n left₀ j₀ left j = n - j
 
 pub symbols_ok_spec : {M : Type 1} → statement M
 symbols_ok_spec =
     tie.close
     (tie.spec
-    invariant-loop
-    decreases-loop
+    invariant-loop-j
+    decreases-loop-j
     (λ c. search (rules, all_loop, left_none))
     (λ c. search (rules, all_loop))
     (λ c. search (rules, all_loop))

@@ -6,18 +6,18 @@ use native.Mathlib.Omega.{arith}
 use Rattle.le.proofs.zero.Statement.{statement}
 use Rattle.le.proofs.zero.Tie as tie
 
-abbrev invariant-loop : tie.invariant-loop-i
-invariant-loop b₀ at n m i₀ b i = (i ≤ m) × Putting b₀ at (replicate n 0) i b
+abbrev invariant-loop-i : tie.invariant-loop-i
+invariant-loop-i b₀ at n m i₀ b i = (i ≤ m) × Putting b₀ at (replicate n 0) i b
 
-abbrev decreases-loop : tie.decreases-loop-i
-decreases-loop b₀ at n m i₀ b i = m - i
+abbrev decreases-loop-i : tie.decreases-loop-i
+decreases-loop-i b₀ at n m i₀ b i = m - i
 
 pub zero_spec : {M : Type 1} → statement M
 zero_spec =
     tie.close
     (tie.spec
-    invariant-loop
-    decreases-loop
+    invariant-loop-i
+    decreases-loop-i
     (λ c. search (rules, putting))
     (λ c. search (rules, putting))
     (λ c. search (rules, putting))

@@ -8,18 +8,18 @@ use Rattle.lists.specs.Relocations.{fix_bytes_at, skip_bytes_at, Step}
 use Rattle.lists.proofs.write_section.Statement.{statement}
 use Rattle.lists.proofs.write_section.Tie as tie
 
-abbrev invariant-loop : tie.invariant-loop
-invariant-loop arch types f homes undef codes base i fixups₀ skips₀ records word m q₀ k₀ fixups skips q k = (k ≤ m) × Step q₀ (over_records (fix_bytes_at base.0 (read_outcome arch f (target_in homes undef codes) records (word_home word))) i k) (over_records (skip_bytes_at (read_outcome arch f (target_in homes undef codes) records (word_home word))) i k) fixups₀ fixups skips₀ skips q k
+abbrev invariant-loop-k : tie.invariant-loop-k
+invariant-loop-k arch types f homes undef codes base i fixups₀ skips₀ records word m q₀ k₀ fixups skips q k = (k ≤ m) × Step q₀ (over_records (fix_bytes_at base.0 (read_outcome arch f (target_in homes undef codes) records (word_home word))) i k) (over_records (skip_bytes_at (read_outcome arch f (target_in homes undef codes) records (word_home word))) i k) fixups₀ fixups skips₀ skips q k
 
-abbrev decreases-loop : tie.decreases-loop
-decreases-loop arch types f homes undef codes base i fixups₀ skips₀ records word m q₀ k₀ fixups skips q k = m - k
+abbrev decreases-loop-k : tie.decreases-loop-k
+decreases-loop-k arch types f homes undef codes base i fixups₀ skips₀ records word m q₀ k₀ fixups skips q k = m - k
 
 pub write_section_spec : {M : Type 1} → statement M
 write_section_spec =
     tie.close
     (tie.spec
-    invariant-loop
-    decreases-loop
+    invariant-loop-k
+    decreases-loop-k
     (λ c. search (rules, row_none, row_room, fixes_long, skips_long, read_end))
     (λ c. search (rules, row_none, row_room, fixes_long, skips_long, read_end))
     (λ c. search (rules, row_none, row_room, fixes_long, skips_long, read_end))
@@ -27,7 +27,7 @@ write_section_spec =
     (λ c. search (rules, row_none, row_room, fixes_long, skips_long, read_end))
     (λ c. search (rules, row_none, row_room, fixes_long, skips_long, read_end))
     (λ c. search (rules, row_none, row_room, fixes_long, skips_long, read_end))
-    (λ c. (search rules, read_again _ _ _ _ _ _ _ _ _ _ _ _ _ _ _ _ _ _ c.before.before.before.before.before.before.before.before.before.loop.invariant.1 c.before.before.before.before.before.before.before.outcome-of.ensures c.before.before.before.before.put-outcome.ensures))
+    (λ c. (search rules, read_again _ _ _ _ _ _ _ _ _ _ _ _ _ _ _ _ _ _ c.before.before.before.before.before.before.before.before.before.loop-k.invariant.1 c.before.before.before.before.before.before.before.outcome-of.ensures c.before.before.before.before.put-outcome.ensures))
     (λ c. search (rules, row_none, row_room, fixes_long, skips_long, read_end))
     (λ c. search (rules, row_none, row_room, fixes_long, skips_long, read_end))
     (λ c. search (rules, row_none, row_room, fixes_long, skips_long, read_end)))

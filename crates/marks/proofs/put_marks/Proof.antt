@@ -5,18 +5,18 @@ use Rattle.marks.specs.Marks.{mark_bytes}
 use Rattle.marks.proofs.put_marks.Statement.{statement}
 use Rattle.marks.proofs.put_marks.Tie as tie
 
-abbrev invariant-loop : tie.invariant-loop
-invariant-loop pages marks₀ n w₀ marks w = (w ≤ n) × (marks ≡ splice marks₀ 0 (mark_bytes pages w))
+abbrev invariant-loop-w : tie.invariant-loop-w
+invariant-loop-w pages marks₀ n w₀ marks w = (w ≤ n) × (marks ≡ splice marks₀ 0 (mark_bytes pages w))
 
-abbrev decreases-loop : tie.decreases-loop
-decreases-loop pages marks₀ n w₀ marks w = n - w
+abbrev decreases-loop-w : tie.decreases-loop-w
+decreases-loop-w pages marks₀ n w₀ marks w = n - w
 
 pub put_marks_spec : {M : Type 1} → statement M
 put_marks_spec =
     tie.close
     (tie.spec
-    invariant-loop
-    decreases-loop
+    invariant-loop-w
+    decreases-loop-w
     (λ c. search (rules, marks_loop))
     (λ c. search (rules, marks_loop, splice_long))
     (λ c. search (rules, marks_loop))

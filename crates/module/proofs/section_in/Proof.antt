@@ -5,18 +5,18 @@ use Rattle.module.proofs.Laws.{from_record, records}
 use Rattle.module.proofs.section_in.Statement.{statement}
 use Rattle.module.proofs.section_in.Tie as tie
 
-abbrev invariant-loop : tie.invariant-loop
-invariant-loop table va n i₀ i = from_record table va i ≡ section_of (table_sections table) va
+abbrev invariant-loop-i : tie.invariant-loop-i
+invariant-loop-i table va n i₀ i = from_record table va i ≡ section_of (table_sections table) va
 
-abbrev decreases-loop : tie.decreases-loop
-decreases-loop table va n i₀ i = n - i
+abbrev decreases-loop-i : tie.decreases-loop-i
+decreases-loop-i table va n i₀ i = n - i
 
 pub section_in_spec : {M : Type 1} → statement M
 section_in_spec =
     tie.close
     (tie.spec
-    invariant-loop
-    decreases-loop
+    invariant-loop-i
+    decreases-loop-i
     (λ c. search (rules, records))
     (λ c κs. search rules)
     (λ c κs. search rules)

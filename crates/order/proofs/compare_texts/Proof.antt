@@ -6,18 +6,18 @@ use Rattle.order.specs.Eights.{Ahead}
 use Rattle.order.proofs.compare_texts.Statement.{statement}
 use Rattle.order.proofs.compare_texts.Tie as tie
 
-abbrev invariant-loop : tie.invariant-loop
-invariant-loop a b i₀ i = Ahead a b i
+abbrev invariant-loop-i : tie.invariant-loop-i
+invariant-loop-i a b i₀ i = Ahead a b i
 
-abbrev decreases-loop : tie.decreases-loop
-decreases-loop a b i₀ i = length a - i
+abbrev decreases-loop-i : tie.decreases-loop-i
+decreases-loop-i a b i₀ i = length a - i
 
 pub compare_texts_spec : {M : Type 1} → statement M
 compare_texts_spec =
     tie.close
     (tie.spec
-    invariant-loop
-    decreases-loop
+    invariant-loop-i
+    decreases-loop-i
     (λ c. search (rules, text_loop))
     (λ c. search (rules, text_loop))
     (λ c. search (rules, text_loop))

@@ -6,18 +6,18 @@ use native.Mathlib.Omega.{arith}
 use Rattle.order.proofs.same_eights.Statement.{statement}
 use Rattle.order.proofs.same_eights.Tie as tie
 
-abbrev invariant-loop : tie.invariant-loop
-invariant-loop a b n s t i₀ i = (i ≤ n) × Ahead a b i
+abbrev invariant-loop-i : tie.invariant-loop-i
+invariant-loop-i a b n s t i₀ i = (i ≤ n) × Ahead a b i
 
-abbrev decreases-loop : tie.decreases-loop
-decreases-loop a b n s t i₀ i = n - i
+abbrev decreases-loop-i : tie.decreases-loop-i
+decreases-loop-i a b n s t i₀ i = n - i
 
 pub same_eights_spec : {M : Type 1} → statement M
 same_eights_spec =
     tie.close
     (tie.spec
-    invariant-loop
-    decreases-loop
+    invariant-loop-i
+    decreases-loop-i
     (λ c. search (rules, ahead_loop))
     (λ c. search (rules, ahead_loop))
     (λ c. search (rules, ahead_loop))

@@ -4,18 +4,18 @@ use Prim.Native.Nat.{◌-◌}
 use Rattle.order.proofs.text_key.Statement.{statement}
 use Rattle.order.proofs.text_key.Tie as tie
 
-abbrev invariant-loop : tie.invariant-loop
-invariant-loop s sum₀ at₀ i₀ sum at i = Read s i at sum
+abbrev invariant-loop-i : tie.invariant-loop-i
+invariant-loop-i s sum₀ at₀ i₀ sum at i = Read s i at sum
 
-abbrev decreases-loop : tie.decreases-loop
-decreases-loop s sum₀ at₀ i₀ sum at i = 8 - i
+abbrev decreases-loop-i : tie.decreases-loop-i
+decreases-loop-i s sum₀ at₀ i₀ sum at i = 8 - i
 
 pub text_key_spec : {M : Type 1} → statement M
 text_key_spec =
     tie.close
     (tie.spec
-    invariant-loop
-    decreases-loop
+    invariant-loop-i
+    decreases-loop-i
     (λ c. search (rules, read_loop))
     (λ c. search (rules, read_loop))
     (λ c. search (rules, read_loop))

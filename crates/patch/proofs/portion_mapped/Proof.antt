@@ -4,18 +4,18 @@ use Rattle.patch.specs.Fixes.{fix_ok}
 use Rattle.patch.proofs.portion_mapped.Statement.{statement}
 use Rattle.patch.proofs.portion_mapped.Tie as tie
 
-abbrev invariant-loop : tie.invariant-loop
-invariant-loop size marks base fixes p n i₀ i = (i ≤ n) × (all_to (λ k. fix_ok size marks base.0 fixes (p + k)) i ≡ true)
+abbrev invariant-loop-i : tie.invariant-loop-i
+invariant-loop-i size marks base fixes p n i₀ i = (i ≤ n) × (all_to (λ k. fix_ok size marks base.0 fixes (p + k)) i ≡ true)
 
-abbrev decreases-loop : tie.decreases-loop
-decreases-loop size marks base fixes p n i₀ i = n - i
+abbrev decreases-loop-i : tie.decreases-loop-i
+decreases-loop-i size marks base fixes p n i₀ i = n - i
 
 pub portion_mapped_spec : {M : Type 1} → statement M
 portion_mapped_spec =
     tie.close
     (tie.spec
-    invariant-loop
-    decreases-loop
+    invariant-loop-i
+    decreases-loop-i
     (λ c. search (rules, all_loop))
     (λ c. search (rules, all_loop))
     (λ c. search (rules, all_loop))

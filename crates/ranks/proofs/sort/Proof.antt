@@ -9,25 +9,25 @@ use Rattle.ranks.proofs.Runs.{runs_again, Runs-loop}
 use Rattle.ranks.proofs.sort.Statement.{statement}
 use Rattle.ranks.proofs.sort.Tie as tie
 
-abbrev invariant-loop : tie.invariant-loop
-invariant-loop f h a₀ spare₀ n w₀ a spare w = (0 < w) × (length spare ≡ length a₀) × RunsRanked (section_text f h) (lateness f h) w a₀ a
+abbrev invariant-loop-w : tie.invariant-loop-w
+invariant-loop-w f h a₀ spare₀ n w₀ a spare w = (0 < w) × (length spare ≡ length a₀) × RunsRanked (section_text f h) (lateness f h) w a₀ a
 
-abbrev decreases-loop : tie.decreases-loop
-decreases-loop f h a₀ spare₀ n w₀ a spare w = n - w
+abbrev decreases-loop-w : tie.decreases-loop-w
+decreases-loop-w f h a₀ spare₀ n w₀ a spare w = n - w
 
-again : tie.Need-loop-preserved invariant-loop decreases-loop
+again : tie.Need-loop-preserved invariant-loop-w decreases-loop-w
 again c =
     let back = c.before.before in
     let forth = back.before.before.before.before.before in
-    let inv = forth.before.before.before.before.loop.invariant in
-    (search rules, search rules, runs_again _ _ _ _ _ _ inv.2 forth.pass.ensures _ back.pass2.ensures)
+    let inv = forth.before.before.before.before.loop-w.invariant in
+    (search rules, search rules, runs_again _ _ _ _ _ _ inv.2 forth.pass.ensures _ back.pass-in-loop-w.ensures)
 
 pub sort_spec : {M : Type 1} → statement M
 sort_spec =
     tie.close
     (tie.spec
-    invariant-loop
-    decreases-loop
+    invariant-loop-w
+    decreases-loop-w
     (λ c. search (rules, Runs-loop))
     (λ c κs. (search rules, search rules, search rules, search rules, search (rules, Runs-loop)))
     (λ c. search (rules, Runs-loop))

@@ -7,18 +7,18 @@ use Rattle.strings.specs.Ascii.{text_in, text_length}
 use Rattle.strings.proofs.text_length.Statement.{statement}
 use Rattle.strings.proofs.text_length.Tie as tie
 
-abbrev invariant-loop : tie.invariant-loop
-invariant-loop image marks at i₀ i = (at ≤ i) × (text_length image marks at ≡ (i - at) + text_in image marks i (length image - i))
+abbrev invariant-loop-i : tie.invariant-loop-i
+invariant-loop-i image marks at i₀ i = (at ≤ i) × (text_length image marks at ≡ (i - at) + text_in image marks i (length image - i))
 
-abbrev decreases-loop : tie.decreases-loop
-decreases-loop image marks at i₀ i = length image - i
+abbrev decreases-loop-i : tie.decreases-loop-i
+decreases-loop-i image marks at i₀ i = length image - i
 
 pub text_length_spec : {M : Type 1} → statement M
 text_length_spec =
     tie.close
     (tie.spec
-    invariant-loop
-    decreases-loop
+    invariant-loop-i
+    decreases-loop-i
     (λ c. search (rules, text_loop))
     (λ c. search (rules, text_loop))
     (λ c. search (rules, text_loop))

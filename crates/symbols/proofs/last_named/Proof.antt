@@ -6,18 +6,18 @@ use Rattle.symbols.proofs.Laws.{scans}
 use Rattle.symbols.proofs.last_named.Statement.{statement}
 use Rattle.symbols.proofs.last_named.Tie as tie
 
-abbrev invariant-loop : tie.invariant-loop
-invariant-loop file table name width n left₀ left = last_to NO_ENTRY (has_name width n file table name) left ≡ last_named width n file table name
+abbrev invariant-loop-left : tie.invariant-loop-left
+invariant-loop-left file table name width n left₀ left = last_to NO_ENTRY (has_name width n file table name) left ≡ last_named width n file table name
 
-abbrev decreases-loop : tie.decreases-loop
-decreases-loop file table name width n left₀ left = left
+abbrev decreases-loop-left : tie.decreases-loop-left
+decreases-loop-left file table name width n left₀ left = left
 
 pub last_named_spec : {M : Type 1} → statement M
 last_named_spec =
     tie.close
     (tie.spec
-    invariant-loop
-    decreases-loop
+    invariant-loop-left
+    decreases-loop-left
     (λ c. search (rules, scans))
     (λ c. search (rules, scans))
     (λ c κs. search rules)

@@ -6,18 +6,18 @@ use Rattle.symbols.proofs.Laws.{scans}
 use Rattle.symbols.proofs.symbol_at.Statement.{statement}
 use Rattle.symbols.proofs.symbol_at.Tie as tie
 
-abbrev invariant-loop : tie.invariant-loop
-invariant-loop table va from n k₀ k = first_from (lies_at table va) k (n - k) ≡ symbol_at table va from
+abbrev invariant-loop-k : tie.invariant-loop-k
+invariant-loop-k table va from n k₀ k = first_from (lies_at table va) k (n - k) ≡ symbol_at table va from
 
-abbrev decreases-loop : tie.decreases-loop
-decreases-loop table va from n k₀ k = n - k
+abbrev decreases-loop-k : tie.decreases-loop-k
+decreases-loop-k table va from n k₀ k = n - k
 
 pub symbol_at_spec : {M : Type 1} → statement M
 symbol_at_spec =
     tie.close
     (tie.spec
-    invariant-loop
-    decreases-loop
+    invariant-loop-k
+    decreases-loop-k
     (λ c. search (rules, scans))
     (λ c κs. search rules)
     (λ c. search (rules, scans))

@@ -9,18 +9,18 @@ use Rattle.homes.specs.Listed.{listed}
 use Rattle.homes.proofs.listed.listed_total.Statement.{statement}
 use Rattle.homes.proofs.listed.listed_total.Tie as tie
 
-abbrev invariant-loop : tie.invariant-loop
-invariant-loop f h homes n count₀ left₀ j₀ count left j = (j ≤ n) × (count ≤ j) × (left ≡ auxiliaries_left f h j) × (count ≡ count_to (listed f h (home_in homes)) j)
+abbrev invariant-loop-j : tie.invariant-loop-j
+invariant-loop-j f h homes n count₀ left₀ j₀ count left j = (j ≤ n) × (count ≤ j) × (left ≡ auxiliaries_left f h j) × (count ≡ count_to (listed f h (home_in homes)) j)
 
-abbrev decreases-loop : tie.decreases-loop
-decreases-loop f h homes n count₀ left₀ j₀ count left j = n - j
+abbrev decreases-loop-j : tie.decreases-loop-j
+decreases-loop-j f h homes n count₀ left₀ j₀ count left j = n - j
 
 pub listed_total_spec : {M : Type 1} → statement M
 listed_total_spec =
     tie.close
     (tie.spec
-    invariant-loop
-    decreases-loop
+    invariant-loop-j
+    decreases-loop-j
     (λ c. search (rules, total_loop))
     (λ c. search (rules, total_loop))
     (λ c. search (rules, total_loop))

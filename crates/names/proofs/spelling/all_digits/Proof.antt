@@ -8,18 +8,18 @@ use Rattle.names.specs.Bytes.{is_digit}
 use Rattle.names.proofs.spelling.all_digits.Statement.{statement}
 use Rattle.names.proofs.spelling.all_digits.Tie as tie
 
-abbrev invariant-loop : tie.invariant-loop
-invariant-loop s n k₀ k = (k ≤ n) × (all_to (λ i. is_digit (get_or s i 0)) k ≡ true)
+abbrev invariant-loop-k : tie.invariant-loop-k
+invariant-loop-k s n k₀ k = (k ≤ n) × (all_to (λ i. is_digit (get_or s i 0)) k ≡ true)
 
-abbrev decreases-loop : tie.decreases-loop
-decreases-loop s n k₀ k = n - k
+abbrev decreases-loop-k : tie.decreases-loop-k
+decreases-loop-k s n k₀ k = n - k
 
 pub all_digits_spec : {M : Type 1} → statement M
 all_digits_spec =
     tie.close
     (tie.spec
-    invariant-loop
-    decreases-loop
+    invariant-loop-k
+    decreases-loop-k
     (λ c. search (rules, all_loop))
     (λ c. search (rules, all_loop))
     (λ c. search (rules, all_loop))

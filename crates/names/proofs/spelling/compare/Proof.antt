@@ -7,18 +7,18 @@ use Rattle.names.specs.Bytes.{compare_bytes}
 use Rattle.names.proofs.spelling.compare.Statement.{statement}
 use Rattle.names.proofs.spelling.compare.Tie as tie
 
-abbrev invariant-loop : tie.invariant-loop
-invariant-loop a b i₀ i = compare_bytes (drop i a) (drop i b) ≡ compare_bytes a b
+abbrev invariant-loop-i : tie.invariant-loop-i
+invariant-loop-i a b i₀ i = compare_bytes (drop i a) (drop i b) ≡ compare_bytes a b
 
-abbrev decreases-loop : tie.decreases-loop
-decreases-loop a b i₀ i = length a - i
+abbrev decreases-loop-i : tie.decreases-loop-i
+decreases-loop-i a b i₀ i = length a - i
 
 pub compare_spec : {M : Type 1} → statement M
 compare_spec =
     tie.close
     (tie.spec
-    invariant-loop
-    decreases-loop
+    invariant-loop-i
+    decreases-loop-i
     (λ c. search (rules, order_loop))
     (λ c. search (rules, order_loop))
     (λ c. search (rules, order_loop))

@@ -7,18 +7,18 @@ use Rattle.names.specs.Bytes.{are_same_bytes}
 use Rattle.names.proofs.spelling.same.Statement.{statement}
 use Rattle.names.proofs.spelling.same.Tie as tie
 
-abbrev invariant-loop : tie.invariant-loop
-invariant-loop a b i₀ i = are_same_bytes (drop i a) (drop i b) ≡ are_same_bytes a b
+abbrev invariant-loop-i : tie.invariant-loop-i
+invariant-loop-i a b i₀ i = are_same_bytes (drop i a) (drop i b) ≡ are_same_bytes a b
 
-abbrev decreases-loop : tie.decreases-loop
-decreases-loop a b i₀ i = length a - i
+abbrev decreases-loop-i : tie.decreases-loop-i
+decreases-loop-i a b i₀ i = length a - i
 
 pub same_spec : {M : Type 1} → statement M
 same_spec =
     tie.close
     (tie.spec
-    invariant-loop
-    decreases-loop
+    invariant-loop-i
+    decreases-loop-i
     (λ c. search (rules, same_loop))
     (λ c. search (rules, same_loop))
     (λ c. search (rules, same_loop))

@@ -6,18 +6,18 @@ use Rattle.le.specs.Le.{splice_long}
 use Rattle.test_calls.proofs.symbol_rows.fill.Statement.{statement}
 use Rattle.test_calls.proofs.symbol_rows.fill.Tie as tie
 
-abbrev invariant-loop : tie.invariant-loop
-invariant-loop f h own₀ n left₀ j₀ own left j = (j ≤ n) × (length own ≡ length own₀)
+abbrev invariant-loop-j : tie.invariant-loop-j
+invariant-loop-j f h own₀ n left₀ j₀ own left j = (j ≤ n) × (length own ≡ length own₀)
 
-abbrev decreases-loop : tie.decreases-loop
-decreases-loop f h own₀ n left₀ j₀ own left j = n - j
+abbrev decreases-loop-j : tie.decreases-loop-j
+decreases-loop-j f h own₀ n left₀ j₀ own left j = n - j
 
 pub fill_spec : {M : Type 1} → statement M
 fill_spec =
     tie.close
     (tie.spec
-    invariant-loop
-    decreases-loop
+    invariant-loop-j
+    decreases-loop-j
     (λ c. (search rules, refl))
     (λ c. search rules)
     (λ c κs. search rules)
