@@ -13,7 +13,7 @@ use Rattle.std.proofs.Math.Seq.{take-nil}
 use Rattle.util.specs.Pick.{pick, yes_no, le_or_lt, not_both, and_left, and_right}
 use Rattle.le.specs.Le.{part, part_at, part_most}
 use Rattle.utf8.specs.Utf8.{holds, TAIL, long_rows, long_length}
-use Rattle.utf8.specs.CharLaws.{Tail, LongChar, long_char, length-take as Front-length}
+use Rattle.utf8.specs.CharLaws.{Tail, LongChar, long_char, length_take as Front-length}
 use Rattle.chars.specs.Chars.{visible, char_at, walk_to, walk, stop}
 
 -- ---- a character

@@ -33,4 +33,4 @@ u64_at_spec =
     (λ c. search rules)
     (λ c. simp (get8, get4_high, get4) (omega arith))
     (λ c. simp get8 (omega arith))
-    (λ c. get_past 8 _ _ c.if-at-s.false))
+    (λ c. get_past 8 _ _ c.if-at-n.false))

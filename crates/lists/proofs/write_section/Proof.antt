@@ -27,7 +27,7 @@ write_section_spec =
     (λ c. search (rules, row_none, row_room, fixes_long, skips_long, read_end))
     (λ c. search (rules, row_none, row_room, fixes_long, skips_long, read_end))
     (λ c. search (rules, row_none, row_room, fixes_long, skips_long, read_end))
-    (λ c. (search rules, read_again _ _ _ _ _ _ _ _ _ _ _ _ _ _ _ _ _ _ c.before.before.before.before.before.before.before.before.before.loop-k.invariant.1 c.before.before.before.before.before.before.before.outcome-of.ensures c.before.before.before.before.put-outcome.ensures))
+    (λ c. (search rules, read_again _ _ _ _ _ _ _ _ _ _ _ _ _ _ _ _ _ _ c.before.before.before.before.before.before.before.before.before.loop-k.invariant.1 c.before.before.before.before.before.before.before.outcome_of-o.ensures c.before.before.before.before.put_outcome-q.ensures))
     (λ c. search (rules, row_none, row_room, fixes_long, skips_long, read_end))
     (λ c. search (rules, row_none, row_room, fixes_long, skips_long, read_end))
     (λ c. search (rules, row_none, row_room, fixes_long, skips_long, read_end)))

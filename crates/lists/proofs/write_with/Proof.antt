@@ -26,7 +26,7 @@ write_with_spec =
     (λ c κs. (search rules, search rules, search rules, search rules))
     (λ c. search (rules, rows_none, rows_again, rows_end, fixes_long, skips_long))
     (λ c. search (rules, rows_none, rows_again, rows_end, fixes_long, skips_long))
-    (λ c. (search rules, rows_again _ _ _ _ _ _ _ _ _ _ _ _ c.before.before.before.before.before.before.before.before.loop-i.invariant.1 c.before.before.before.before.write-next.ensures))
+    (λ c. (search rules, rows_again _ _ _ _ _ _ _ _ _ _ _ _ c.before.before.before.before.before.before.before.before.loop-i.invariant.1 c.before.before.before.before.write_next-q.ensures))
     (λ c. search (rules, rows_none, rows_again, rows_end, fixes_long, skips_long))
     (λ c. search (rules, rows_none, rows_again, rows_end, fixes_long, skips_long))
     (λ c. search (rules, rows_none, rows_again, rows_end, fixes_long, skips_long)))

@@ -9,14 +9,14 @@ asked c κs =
     let cut = c.before.before.before in
     let pre = cut.before.before.before.before.before.requires in
     let mid = cut.before.run_end-mid.ensures in
-    let hi = cut.run-end2.ensures in
+    let hi = cut.run_end-hi.ensures in
     (runs_long _ _ _ _ _ _ refl pre.1 mid hi _ pre.0, runs_first _ _ _ _ _ _ refl pre.1 mid hi _ _ pre.2, runs_second _ _ _ _ _ _ refl pre.1 mid hi _ _ pre.3)
 
 returns : tie.Need-returns
 returns c =
     let cut = c.before.before.before.before.before.before in
     let pre = cut.before.before.before.before.before.requires in
-    runs_put _ _ _ _ _ _ refl pre.1 cut.before.run_end-mid.ensures cut.run-end2.ensures _ _ _ _ pre.0 c.before.before.merge.ensures
+    runs_put _ _ _ _ _ _ refl pre.1 cut.before.run_end-mid.ensures cut.run_end-hi.ensures _ _ _ _ pre.0 c.before.before.merge.ensures
 
 pub merge_runs_spec : {M : Type 1} → statement M
 merge_runs_spec =

@@ -8,4 +8,4 @@ is_loaded_spec =
     (tie.spec
     (λ c. search rules)
     (λ c. search rules)
-    (λ c. rw (c.loaded-by.ensures, c.before.section-flags.ensures)))
+    (λ c. rw (c.loaded_by.ensures, c.before.section_flags.ensures)))

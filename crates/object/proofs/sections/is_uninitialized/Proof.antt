@@ -7,4 +7,4 @@ is_uninitialized_spec =
     tie.close
     (tie.spec
     (λ c. search rules)
-    (λ c. rw c.section-flags.ensures))
+    (λ c. rw c.section_flags.ensures))

@@ -8,4 +8,4 @@ permissions_spec =
     (tie.spec
     (λ c. search rules)
     (λ c. search rules)
-    (λ c. rw (c.permissions-by.ensures, c.before.section-flags.ensures)))
+    (λ c. rw (c.permissions_by.ensures, c.before.section_flags.ensures)))
