@@ -176,16 +176,16 @@ module _ (f : List ℕ) where
     abbrev Starts : Place → Rule → Type 0
     Starts p r = Direct r → (o : RVA) → reached (by_rule r) ≡ At o → o.0 ≡ start_by f j p
 
-    by_number : (n : ℕ) → Starts (places.In n) (rules.Section n)
+    by_number_lem : (n : ℕ) → Starts (places.In n) (rules.Section n)
     unfolding rule_target
-    by_number n d o e = in_section_lem n o e
+    by_number_lem n d o e = in_section_lem n o e
 
     by_name : (o : RVA) → reached (by_rule rules.Extern) ≡ At o → o.0 ≡ slot_named f j
     unfolding rule_target
     by_name o e = in_slot (slot_of f h (externs f h) (symbol_text f h j)) o e
 
     data_starts : (p : Place) → Starts p (data_rule p)
-    data_starts (places.In n) d = by_number n d
+    data_starts (places.In n) d = by_number_lem n d
     data_starts places.Undefined d = by_name
     data_starts places.Common d = by_name
     data_starts places.Other d = by_name
@@ -193,7 +193,7 @@ module _ (f : List ℕ) where
     data_starts places.Nowhere d = absurd d
 
     section_starts : (p : Place) → Starts p (section_rule p)
-    section_starts (places.In n) d = by_number n d
+    section_starts (places.In n) d = by_number_lem n d
     section_starts places.Undefined d = absurd d
     section_starts places.Common d = absurd d
     section_starts places.Other d = absurd d
@@ -201,7 +201,7 @@ module _ (f : List ℕ) where
     section_starts places.Nowhere d = absurd d
 
     label_starts : (p : Place) → Starts p (label_rule p)
-    label_starts (places.In n) d = by_number n d
+    label_starts (places.In n) d = by_number_lem n d
     label_starts places.Undefined d = absurd d
     label_starts places.Common d = absurd d
     label_starts places.Other d = absurd d

@@ -50,9 +50,9 @@ module _ (f : List ℕ) (c : Counts) (accepted : survey_of f ≡ Accepted c) (ba
   size_fits = leb-true (length f) MAX_FILE (and_right (leb HEADER_SIZE (length f)) (leb (length f) MAX_FILE) (records_ordered f c accepted).size)
 
   module _ (i : ℕ) (inside : i < h.sections) (loads : loaded f h i ≡ true) where
-    bytes_ok : bytes_ok f h i ≡ true
+    bytes_ok_lem : bytes_ok f h i ≡ true
     unfolding sections_ok data_ok
-    bytes_ok =
+    bytes_ok_lem =
         let a = and_left _ _ (records_ordered f c accepted).sections in
         let b = all_at (section_ok f h) h.sections i a inside in
         let d : data_ok f h i ≡ true = and_left (data_ok f h i) (relocations_ok f h i) b in
@@ -62,7 +62,7 @@ module _ (f : List ℕ) (c : Counts) (accepted : survey_of f ≡ Accepted c) (ba
     file_fits : file_end f h i ≤ length f
     unfolding bytes_ok file_end pick
     file_fits =
-        ⊎_elim (λ u. rw u (omega arith)) (λ u. rw u (leb-true _ (length f) (rw u at bytes_ok))) (yes_no (uninitialized f h i))
+        ⊎_elim (λ u. rw u (omega arith)) (λ u. rw u (leb-true _ (length f) (rw u at bytes_ok_lem))) (yes_no (uninitialized f h i))
 
     file_forward : file_start f h i ≤ file_end f h i
     unfolding file_start file_end pick

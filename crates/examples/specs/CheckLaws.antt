@@ -65,9 +65,9 @@ module _ (n m : ℕ) (names : n ≤ MAX_NAMES) (most : m ≤ MAX_RELOCATIONS) wh
   abbrev end : ℕ
   end = symbols_at m + 18 * n + 4
 
-  size_ok : size_ok f ≡ true
+  size_ok_lem : size_ok f ≡ true
   unfolding size_ok
-  size_ok = rw (length_names n m, le-leb HEADER_SIZE end (omega arith), le-leb end MAX_FILE (omega arith))
+  size_ok_lem = rw (length_names n m, le-leb HEADER_SIZE end (omega arith), le-leb end MAX_FILE (omega arith))
 
   section_table_ok_lem : section_table_ok f h ≡ true
   unfolding section_table_ok
@@ -128,7 +128,7 @@ module _ (n m : ℕ) (names : n ≤ MAX_NAMES) (most : m ≤ MAX_RELOCATIONS) wh
   unfolding arch_of pick
   names_ordered =
       record {
-        size = size_ok;
+        size = size_ok_lem;
         machine = refl;
         section_table = section_table_ok_lem;
         symbol_table = symbol_table_ok_lem;

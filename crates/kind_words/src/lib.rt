@@ -8,6 +8,7 @@ use kinds::{Place, RelocationKind, SymbolKind};
 use text::put_text;
 
 // The word of a symbol kind.
+#[tactic(auto, using(crate::proofs::Laws::kind_put))]
 pub fn put_kind(out: &mut [u8], at: usize, kind: SymbolKind) -> usize
     ensures { Puts out.old at (kind_word kind) out.new result }
 {
@@ -22,6 +23,7 @@ pub fn put_kind(out: &mut [u8], at: usize, kind: SymbolKind) -> usize
 }
 
 // The word of a place.
+#[tactic(auto, using(crate::proofs::Laws::place_put))]
 pub fn put_place(out: &mut [u8], at: usize, place: Place) -> usize
     ensures { Puts out.old at (place_word place) out.new result }
 {
@@ -36,6 +38,7 @@ pub fn put_place(out: &mut [u8], at: usize, place: Place) -> usize
 }
 
 // The word of a relocation kind.
+#[tactic(auto, using(crate::proofs::Laws::relocation_put))]
 pub fn put_relocation_kind(out: &mut [u8], at: usize, kind: RelocationKind) -> usize
     ensures { Puts out.old at (relocation_kind_word kind) out.new result }
 {

@@ -98,8 +98,7 @@ fn answer_code(answer: Answer) -> u64
 }
 
 // The counts of a file: 80 bytes.
-#[unsafe(no_mangle)]
-pub extern "C" fn nelgrauf_survey(file: &[u8], counts: &mut [u8]) -> u64
+pub fn nelgrauf_survey(file: &[u8], counts: &mut [u8]) -> u64
     ensures { Surveyed file.now counts.old counts.new result }
 {
     tell_counts(survey::survey(file), counts)
@@ -140,8 +139,7 @@ fn untold_patch_code(fixups: &[u8], position: u64) -> u64
 }
 
 // Tables, marks and image of a file at a base, and its counts.
-#[unsafe(no_mangle)]
-pub extern "C" fn nelgrauf_load(
+pub fn nelgrauf_load(
     file: &[u8],
     base: u64,
     image: &mut [u8],
@@ -178,8 +176,7 @@ pub extern "C" fn nelgrauf_load(
 }
 
 // `number` fixups of the list from `position` on, or all that are left; where that ended and whether the list did: 16 bytes.
-#[unsafe(no_mangle)]
-pub extern "C" fn nelgrauf_patch(
+pub fn nelgrauf_patch(
     base: u64,
     image: &mut [u8],
     marks: &[u8],
@@ -202,8 +199,7 @@ pub extern "C" fn nelgrauf_patch(
 }
 
 // The bytes of the image from an address on, as many as `out` takes.
-#[unsafe(no_mangle)]
-pub extern "C" fn nelgrauf_read(
+pub fn nelgrauf_read(
     base: u64,
     image: &[u8],
     marks: &[u8],
@@ -216,8 +212,7 @@ pub extern "C" fn nelgrauf_read(
 }
 
 // The listed symbol that an address belongs to, by the two tables as load wrote them: 16 bytes.
-#[unsafe(no_mangle)]
-pub extern "C" fn nelgrauf_routine(
+pub fn nelgrauf_routine(
     sections: &[u8],
     symbols: &[u8],
     address: u64,

@@ -11,5 +11,4 @@ extern_line_spec =
     (λ c. search rules)
     (λ c. search rules)
     (λ c. search rules)
-    (λ c. search rules)
     (λ c. search (rules, extern_put)))

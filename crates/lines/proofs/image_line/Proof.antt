@@ -12,6 +12,4 @@ image_line_spec =
     (λ c. search rules)
     (λ c. search rules)
     (λ c. search rules)
-    (λ c. search rules)
-    (λ c. search rules)
     (λ c. search (rules, image_put)))

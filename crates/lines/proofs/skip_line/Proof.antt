@@ -12,5 +12,4 @@ skip_line_spec =
     (λ c. search rules)
     (λ c. search rules)
     (λ c. search rules)
-    (λ c. search rules)
     (λ c. search (rules, skip_put)))

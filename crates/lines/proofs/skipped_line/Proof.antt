@@ -12,6 +12,4 @@ skipped_line_spec =
     (λ c. search rules)
     (λ c. search rules)
     (λ c. search rules)
-    (λ c. search rules)
-    (λ c. search rules)
     (λ c. search (rules, skipped_put)))

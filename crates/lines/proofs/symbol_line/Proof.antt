@@ -12,5 +12,4 @@ symbol_line_spec =
     (λ c. search rules)
     (λ c. search rules)
     (λ c. search rules)
-    (λ c. search rules)
     (λ c. search (rules, symbol_put)))

@@ -15,7 +15,7 @@ invariant-loop-w f h a₀ spare₀ n w₀ a spare w = (0 < w) × (length spare �
 abbrev decreases-loop-w : tie.decreases-loop-w
 decreases-loop-w f h a₀ spare₀ n w₀ a spare w = n - w
 
-again : tie.Need-loop-preserved invariant-loop-w decreases-loop-w
+again : tie.Need-loop-w-preserved invariant-loop-w decreases-loop-w
 again c =
     let back = c.before.before in
     let forth = back.before.before.before.before.before in

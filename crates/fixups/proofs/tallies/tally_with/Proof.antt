@@ -28,7 +28,7 @@ tally_with_spec =
     (λ c κs. search (rules, rows_loop, homeless))
     (λ c. search (rules, rows_loop))
     (λ c. search (rules, rows_loop, homeless))
-    (λ c. (search rules, passed_again _ _ _ c.before.before.before.before.before.before.before.before.before.before.before.args.homes.now (target_in c.before.before.before.before.before.before.before.before.before.before.before.args.homes.now c.before.before.before.before.before.before.before.before.before.before.before.args.undef c.before.before.before.before.before.before.before.before.before.before.before.args.codes.now) _ _ _ _ _ _ c.before.before.before.before.before.loop-i.invariant.1 c.before.before.before.word_at_lem.ensures c.before.before.if-word_at-eq0.true c.before.relocation_count.ensures (search rules) c.with_passed-sum.ensures c.before.before.before.before.before.loop-i.invariant.2, search (rules, passed_near)))
+    (λ c. (search rules, passed_again _ _ _ c.before.before.before.before.before.before.before.before.before.before.before.args.homes.now (target_in c.before.before.before.before.before.before.before.before.before.before.before.args.homes.now c.before.before.before.before.before.before.before.before.before.before.before.args.undef c.before.before.before.before.before.before.before.before.before.before.before.args.codes.now) _ _ _ _ _ _ c.before.before.before.before.before.loop-i.invariant.1 c.before.before.before.word_at.ensures c.before.before.if-word_at-eq0.true c.before.relocation_count.ensures (search rules) c.with_passed-sum.ensures c.before.before.before.before.before.loop-i.invariant.2, search (rules, passed_near)))
     (λ c κs. search (rules, rows_loop))
     (λ c. search (rules, rows_loop))
     (λ c. search (rules, rows_loop))
