@@ -18,8 +18,8 @@ decreases-loop-w f h a₀ spare₀ n w₀ a spare w = n - w
 again : tie.Need-loop-w-preserved invariant-loop-w decreases-loop-w
 again c =
     let back = c.before.before in
-    let forth = back.before.before.before.before.before in
-    let inv = forth.before.before.loop-w.invariant in
+    let forth = back.before.before.before.before in
+    let inv = forth.before.before.before.loop-w.invariant in
     (search rules, search rules, runs_again _ _ _ _ _ _ inv.2 forth.pass.ensures _ back.pass-in-loop-w.ensures)
 
 pub sort_spec : {M : Type 1} → statement M
