@@ -1,5 +1,5 @@
 -- The steps of a scan and of filling, as the code asks them.
-use Rattle.std.proofs.Common.{◌≡◌, ℕ, ◌+◌, ◌*◌, ◌/◌, ◌<◌, ◌≤◌, Bool, true, false, not, T, List, length, drop, set, sym, refl, ap, ◌∙◌, add-one, drop_of_length-le, drop-cons}
+use Rattle.std.proofs.Common.{◌≡◌, ℕ, ◌+◌, ◌*◌, ◌/◌, ◌<◌, ◌≤◌, Bool, true, false, List, length, drop, set, sym, refl, ap, ◌∙◌, add-one, drop_of_length-le, drop-cons}
 use Rattle.limits.specs.Records.{WORD, SECTION_WORDS, SECTION_BYTES}
 use Rattle.util.specs.Pick.{pick}
 use Rattle.util.specs.Prefix.{length_list, list_at}
@@ -17,30 +17,38 @@ use Rattle.nearest.specs.Nearest.{nearest}
 use Rattle.module.specs.Questions.{first_of, numbered, NONE_HOLDS, section_of, section_at, fill_to, blank, nth}
 use Rattle.module.specs.Routine.{table_sections, of_holder, routine}
 
--- ---- a scan by index: what is left of the list from i on
-picks : {A : Type 0} (b : Bool) (x y : A) → T b → pick b x y ≡ x
-unfolding pick
-picks true x y h = refl
-picks false x y h = absurd h
+-- ---- a scan by index: the answer of the whole is that of the records from i on
+pub record Left {A : Type 0} (p : Section → Bool) (a : ℕ → Section → A) (z : A) (t : List Section) (i : ℕ) : Type 0 where
+  pub same : first_of p a z (drop i t) i ≡ first_of p a z t 0
 
-passes : {A : Type 0} (b : Bool) (x y : A) → T (not b) → pick b x y ≡ y
-unfolding pick
-passes true x y h = absurd h
-passes false x y h = refl
+module _ {A : Type 0} {p : Section → Bool} {a : ℕ → Section → A} {z : A} {t : List Section} where
+  pub left_all : Left p a z t 0
+  left_all = record { same = refl }
 
-module _ {A : Type 0} (p : Section → Bool) (a : ℕ → Section → A) (z : A) (t : List Section) (i : ℕ) where
-  pub scan_end : length t ≤ i → first_of p a z (drop i t) i ≡ z
-  unfolding first_of
-  scan_end h = rw (drop_of_length-le t h)
+  module _ {i : ℕ} (l : Left p a z t i) where
+    pub left_next : {b : Bool} → i < length t → b ≡ p (nth t i) → b ≡ false → Left p a z t (i + 1)
+    unfolding first_of pick
+    left_next {b = b} below tested fails =
+        let missed : p (nth t i) ≡ false = cc in
+        let step : first_of p a z (drop i t) i ≡ first_of p a z (drop (i + 1) t) (i + 1) = rw (add-one, drop-cons t i blank below, missed) in
+        record { same = sym step ∙ l.same }
 
-  pub scan_hit : i < length t → T (p (nth t i)) → first_of p a z (drop i t) i ≡ a i (nth t i)
-  unfolding first_of
-  scan_hit l h = rw (drop-cons t i blank l) (picks (p (nth t i)) _ _ h)
+    pub left_found : {b : Bool} → i < length t → b ≡ p (nth t i) → b ≡ true → first_of p a z t 0 ≡ a i (nth t i)
+    unfolding first_of pick
+    left_found {b = b} below tested holds_there =
+        let hit : p (nth t i) ≡ true = cc in
+        let step : first_of p a z (drop i t) i ≡ a i (nth t i) = rw (drop-cons t i blank below, hit) in
+        sym l.same ∙ step
 
-  pub scan_miss : i < length t → T (not (p (nth t i))) → first_of p a z (drop i t) i ≡ first_of p a z (drop (i + 1) t) (i + 1)
-  unfolding first_of
-  scan_miss l h = rw (add-one, drop-cons t i blank l) (passes (p (nth t i)) _ _ h)
+    pub left_none : {r : A} → length t ≤ i → r ≡ z → r ≡ first_of p a z t 0
+    unfolding first_of
+    left_none {r = r} past answers =
+        let step : first_of p a z (drop i t) i ≡ z = rw (drop_of_length-le t past) in
+        answers ∙ sym step ∙ l.same
 
+pub ruleset scan_steps = (left_all, left_next, left_found, left_none)
+
+-- ---- filling by index
 pub fill_to_zero : (table : List ℕ) (t : List Section) → fill_to table 0 t ≡ t
 unfolding fill_to
 fill_to_zero table t = refl
@@ -48,6 +56,8 @@ fill_to_zero table t = refl
 pub fill_to_next : (table : List ℕ) (n : ℕ) (t : List Section) → fill_to table (n + 1) t ≡ set (fill_to table n t) n (section_at table n)
 unfolding fill_to
 fill_to_next table n t = rw add-one
+
+pub ruleset fill_steps = (fill_to_zero, fill_to_next)
 
 -- ---- where a word stands
 pub section_word_is : (table : List ℕ) (r w x : ℕ) → x ≡ get WORD table (WORD * (SECTION_WORDS * r + w)) → x ≡ word_of SECTION_WORDS table r w
@@ -62,41 +72,31 @@ module _ (table : List ℕ) (r : ℕ) where
       → ◌≡◌ {A = Section} (record { start = va a; end = va b; file_start = c; file_end = d; permissions = e; name_start = f; name_length = g; number = h }) (section_at table r)
   section_is a b c d e f g h i j k l m n o p = rw (i, j, k, l, m, n, o, p)
 
--- ---- a scan of the table that load wrote: what is left of it from record i on
-pub from_record : List ℕ → VA → ℕ → Number
-from_record table x i = first_of (holds x) numbered NONE_HOLDS (drop i (table_sections table)) i
+-- ---- a scan of the table that load wrote
+pub record LeftRecords (table : List ℕ) (x : VA) (i : ℕ) : Type 0 where
+  pub left : Left (holds x) numbered NONE_HOLDS (table_sections table) i
 
-pub record_first : (table : List ℕ) (x : VA) → from_record table x 0 ≡ section_of (table_sections table) x
-unfolding from_record
-record_first table x = refl
+pub records_all : (table : List ℕ) (x : VA) → LeftRecords table x 0
+records_all table x = record { left = left_all }
 
-module _ (table : List ℕ) (x : VA) (n i : ℕ) (counted : n ≡ length table / SECTION_BYTES) (left : from_record table x i ≡ section_of (table_sections table) x) where
-  abbrev t : List Section
-  t = table_sections table
-
-  long : length t ≡ n
+module _ (table : List ℕ) (n : ℕ) (counted : n ≡ length table / SECTION_BYTES) where
+  long : length (table_sections table) ≡ n
   long = length_list (section_at table) (length table / SECTION_BYTES) ∙ sym counted
 
-  there : i < n → nth t i ≡ section_at table i
-  there l = list_at (section_at table) blank (length table / SECTION_BYTES) i (rw (← counted) l)
+  there : (i : ℕ) → i < n → nth (table_sections table) i ≡ section_at table i
+  there i below = list_at (section_at table) blank (length table / SECTION_BYTES) i (rw (← counted) below)
 
-  pub record_hit : (s : Section) {r : Bool} {a : Number} → i < n → s ≡ section_at table i → r ≡ holds x s → r ≡ true → a ≡ Value i → a ≡ section_of t x
-  unfolding from_record
-  record_hit s l e q h v =
-      let found : holds x (nth t i) ≡ true = ap (holds x) (there l ∙ sym e) ∙ sym q ∙ h in
-      v ∙ sym (scan_hit (holds x) numbered NONE_HOLDS t i (rw long l) (rw found tt)) ∙ left
+module _ {table : List ℕ} {x : VA} {n i : ℕ} (l : LeftRecords table x i) (counted : n ≡ length table / SECTION_BYTES) where
+  pub record_next : {s : Section} {b : Bool} → i < n → s ≡ section_at table i → b ≡ holds x s → b ≡ false → LeftRecords table x (i + 1)
+  record_next below is test fails = record { left = left_next l.left (rw (long table n counted) below) (test ∙ ap (holds x) (is ∙ sym (there table n counted i below))) fails }
 
-  pub record_miss : (s : Section) {r : Bool} → i < n → s ≡ section_at table i → r ≡ holds x s → r ≡ false → from_record table x (i + 1) ≡ section_of t x
-  unfolding from_record
-  record_miss s l e q h =
-      let passed : holds x (nth t i) ≡ false = ap (holds x) (there l ∙ sym e) ∙ sym q ∙ h in
-      sym (scan_miss (holds x) numbered NONE_HOLDS t i (rw long l) (rw passed tt)) ∙ left
+  pub record_found : {s : Section} {b : Bool} {r : Number} → i < n → s ≡ section_at table i → b ≡ holds x s → b ≡ true → r ≡ Value i → r ≡ section_of (table_sections table) x
+  record_found below is test found answers = answers ∙ sym (left_found l.left (rw (long table n counted) below) (test ∙ ap (holds x) (is ∙ sym (there table n counted i below))) found)
 
-  pub record_end : {a : Number} → n ≤ i → a ≡ NONE_HOLDS → a ≡ section_of t x
-  unfolding from_record
-  record_end l v = v ∙ sym (scan_end (holds x) numbered NONE_HOLDS t i (rw long l)) ∙ left
+  pub record_none : {r : Number} → n ≤ i → r ≡ NONE_HOLDS → r ≡ section_of (table_sections table) x
+  record_none past answers = left_none l.left (rw (long table n counted) past) answers
 
-pub ruleset records = (record_first, record_hit, record_miss, record_end)
+pub ruleset record_steps = (records_all, record_next, record_found, record_none)
 
 -- ---- the symbols of the section that was found
 module _ (symbols : List ℕ) (x : VA) where

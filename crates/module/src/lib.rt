@@ -73,6 +73,7 @@ fn to_fill(bytes: usize, room: usize) -> usize
 
 // The records of the section table that load wrote, as many as it has and as there is room for, and how many these are: fewer than load's
 // count of sections where `out` has too little room.
+#[tactic(auto, using(crate::proofs::Laws::fill_steps))]
 pub fn fill_sections(table: &[u8], out: &mut [Section]) -> usize
     ensures { Fills table.now out.old out.new result }
 {
@@ -171,6 +172,7 @@ fn no() -> bool
 }
 
 // The place in the file of an address, by the first section whose range holds it, also past that section's raw data.
+#[tactic(auto, using(crate::proofs::Laws::scan_steps))]
 pub fn file_offset(t: &[Section], va: VA) -> Number
     ensures { result ≡ file_offset t.now va }
 {
@@ -186,6 +188,7 @@ pub fn file_offset(t: &[Section], va: VA) -> Number
 }
 
 // The address of a place in the file, by the first section whose file range holds it.
+#[tactic(auto, using(crate::proofs::Laws::scan_steps))]
 pub fn virtual_address(t: &[Section], offset: u64) -> AddressAnswer
     ensures { result ≡ virtual_address t.now offset }
 {
@@ -201,6 +204,7 @@ pub fn virtual_address(t: &[Section], offset: u64) -> AddressAnswer
 }
 
 // The number in the table, from 0, of the first section whose range holds the address.
+#[tactic(auto, using(crate::proofs::Laws::scan_steps))]
 pub fn section_of(t: &[Section], va: VA) -> Number
     ensures { result ≡ section_of t.now va }
 {
@@ -216,6 +220,7 @@ pub fn section_of(t: &[Section], va: VA) -> Number
 }
 
 // The number in the table, from 0, of the first section whose file range holds the offset.
+#[tactic(auto, using(crate::proofs::Laws::scan_steps))]
 pub fn section_of_offset(t: &[Section], offset: u64) -> Number
     ensures { result ≡ section_of_offset t.now offset }
 {
@@ -231,6 +236,7 @@ pub fn section_of_offset(t: &[Section], offset: u64) -> Number
 }
 
 // The number in the table, from 0, of the first section with that name; UNDEF's is `UNDEF`.
+#[tactic(auto, using(crate::proofs::Laws::scan_steps))]
 pub fn section_named(t: &[Section], file: &[u8], name: &[u8]) -> Number
     ensures { result ≡ section_named t.now file.now name.now }
 {
@@ -245,6 +251,7 @@ pub fn section_named(t: &[Section], file: &[u8], name: &[u8]) -> Number
 }
 
 // Whether a section whose range holds the address has one of the permissions; with none asked for, no.
+#[tactic(auto, using(crate::proofs::Laws::scan_steps))]
 pub fn probe_va(t: &[Section], q: Probe) -> bool
     ensures { result ≡ probe_va t.now q }
 {
@@ -260,6 +267,7 @@ pub fn probe_va(t: &[Section], q: Probe) -> bool
 }
 
 // The same for an offset from the base; past 64 bits, no.
+#[tactic(auto, using(crate::proofs::Laws::scan_steps))]
 pub fn probe_rva(t: &[Section], q: OffsetProbe) -> bool
     ensures { result ≡ probe_rva t.now q }
 {
@@ -274,6 +282,7 @@ pub fn probe_rva(t: &[Section], q: OffsetProbe) -> bool
     no()
 }
 
+#[tactic(auto, using(crate::proofs::Laws::scan_steps))]
 fn is_backed(t: &[Section], n: Number) -> bool
     ensures { result ≡ is_backed t.now n }
 {
@@ -314,6 +323,7 @@ pub fn routine(t: &[Section], symbols: &[u8], va: VA) -> RoutineAnswer
 }
 
 // The number of the first record of load's section table whose range holds the address.
+#[tactic(auto, using(crate::proofs::Laws::record_steps))]
 fn section_in(table: &[u8], va: VA) -> Number
     ensures { result ≡ section_of (table_sections table.now) va }
 {

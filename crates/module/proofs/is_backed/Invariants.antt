@@ -1,0 +1,10 @@
+use Rattle.std.proofs.Common.{◌-◌, true, false, length}
+use Rattle.section.specs.Section.{has_byte}
+use Rattle.module.proofs.Laws.{Left}
+use Rattle.module.proofs.is_backed.Given as goal
+
+abbrev pub invariant-loop-i : goal.invariant-loop-i
+invariant-loop-i l = Left (λ s. has_byte s l.n) (λ k s. true) false l.t l.i
+
+abbrev pub decreases-loop-i : goal.decreases-loop-i
+decreases-loop-i l = length l.t - l.i

@@ -1,0 +1,11 @@
+use Rattle.std.proofs.Common.{◌-◌, length}
+use Rattle.section.specs.Section.{file_holds}
+use Rattle.module.specs.Questions.{numbered, NONE_HOLDS}
+use Rattle.module.proofs.Laws.{Left}
+use Rattle.module.proofs.section_of_offset.Given as goal
+
+abbrev pub invariant-loop-i : goal.invariant-loop-i
+invariant-loop-i l = Left (file_holds l.offset) numbered NONE_HOLDS l.t l.i
+
+abbrev pub decreases-loop-i : goal.decreases-loop-i
+decreases-loop-i l = length l.t - l.i
