@@ -199,30 +199,19 @@ pub fn nelgrauf_patch(
 }
 
 // The bytes of the image from an address on, as many as `out` takes.
-pub fn nelgrauf_read(
-    base: u64,
-    image: &[u8],
-    marks: &[u8],
-    address: u64,
-    out: &mut [u8],
-) -> u64
+pub fn nelgrauf_read(base: u64, image: &[u8], marks: &[u8], address: u64, out: &mut [u8]) -> u64
     ensures { Read base image.now marks.now address out.old out.new result }
 {
     answer_code(aspace::absolute::read_into(image, marks, VA(base), VA(address), out))
 }
 
 // The listed symbol that an address belongs to, by the two tables as load wrote them: 16 bytes.
-pub fn nelgrauf_routine(
-    sections: &[u8],
-    symbols: &[u8],
-    address: u64,
-    res: &mut [u8],
-) -> u64
-    ensures { Traced sections.now symbols.now address res.old res.new result }
+pub fn nelgrauf_routine(sections: &[u8], symbols: &[u8], address: u64, nearest: &mut [u8]) -> u64
+    ensures { Traced sections.now symbols.now address nearest.old nearest.new result }
 {
-    let room = ROUTINE_BYTES <= res.len();
+    let room = ROUTINE_BYTES <= nearest.len();
     if room {
-        tell_routine(module::routine_in(sections, symbols, VA(address)), res)
+        tell_routine(module::routine_in(sections, symbols, VA(address)), nearest)
     } else {
         refusal::STORAGE
     }

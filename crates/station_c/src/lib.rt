@@ -73,9 +73,9 @@ pub extern "C" fn nelgrauf_routine(
     sections: &[u8],
     symbols: &[u8],
     address: u64,
-    res: &mut [u8],
+    nearest: &mut [u8],
 ) -> u64
-    ensures { Traced sections.now symbols.now address res.old res.new result }
+    ensures { Traced sections.now symbols.now address nearest.old nearest.new result }
 {
-    station::nelgrauf_routine(sections, symbols, address, res)
+    station::nelgrauf_routine(sections, symbols, address, nearest)
 }

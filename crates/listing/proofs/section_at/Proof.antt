@@ -14,7 +14,6 @@ section_at_spec =
     (λ c. search rules)
     (λ c. search rules)
     (λ c. search rules)
-    (λ c. search rules)
     (λ c. search (rules, undef_put, section_put))
     (λ c. search rules)
     (λ c. search (rules, undef_put, section_put)))

@@ -12,7 +12,6 @@ line_spec =
     (λ c. search rules)
     (λ c. search rules)
     (λ c. search rules)
-    (λ c. search rules)
     (λ c. search (rules, part_long))
     (λ c. search rules)
     (λ c. search (rules, part_long))

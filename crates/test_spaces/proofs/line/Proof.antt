@@ -11,7 +11,6 @@ line_spec =
     (λ c. search rules)
     (λ c. search rules)
     (λ c. search rules)
-    (λ c. search rules)
     (λ c. search (rules, part_long))
     (λ c. search rules)
     (λ c. search rules)
