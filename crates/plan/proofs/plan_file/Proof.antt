@@ -16,7 +16,7 @@ plan_file_spec =
     (λ c. search (rules, plans_no, plans_large, pages_few))
     (λ c. search (rules, plans_no, plans_large, pages_few))
     (λ c. search (rules, plans_no, plans_large, pages_few))
-    (λ c. (plans_yes _ _ _ _ _ _ _ _ c.before.before.before.before.before.before.before.before.before.before.before.before.before.before.before.before.before.first_code-code.ensures c.before.before.before.before.before.before.before.before.before.before.before.before.before.before.before.before.before.before.read_header-h.ensures _ _ _ _ _ _ _ c.before.before.before.before.before.before.before.before.before.before.before.before.before.before.before.before.if-code-eq0.true c.before.before.before.before.before.before.before.before.before.before.before.pages_fit.ensures c.before.before.before.before.before.before.before.before.before.before.if-pages_fit.true c.before.before.before.before.before.before.before.before.before.before.before.before.before.before.fill_homes-undef.ensures.1 c.before.before.before.before.before.before.before.before.before.before.before.before.before.before.fill_homes-undef.ensures.0 c.before.before.before.before.before.before.before.before.fill_codes.ensures c.before.before.plan_names.ensures.0, λ _. c.before.before.plan_names.ensures.1))
+    (λ c. (plans_yes _ _ _ _ _ _ _ _ c.before.before.before.before.before.before.before.before.before.before.before.before.before.before.before.before.first_code-code.ensures c.before.before.before.before.before.before.before.before.before.before.before.before.before.before.before.before.before.read_header-h.ensures _ _ _ _ _ _ _ c.before.before.before.before.before.before.before.before.before.before.before.before.before.before.before.if-code-eq0.true c.before.before.before.before.before.before.before.before.before.before.pages_fit.ensures c.before.before.before.before.before.before.before.before.before.if-pages_fit.true c.before.before.before.before.before.before.before.before.before.before.before.before.before.fill_homes-undef.ensures.1 c.before.before.before.before.before.before.before.before.before.before.before.before.before.fill_homes-undef.ensures.0 c.before.before.before.before.before.before.before.fill_codes.ensures c.before.before.plan_names.ensures.0, λ _. c.before.before.plan_names.ensures.1))
     (λ c. search (rules, plans_no, plans_large, pages_few))
     (λ c. search (rules, plans_no, plans_large, pages_few))
     (λ c. search (rules, plans_no, plans_large, pages_few)))
