@@ -12,7 +12,7 @@ use Rattle.object.specs.Format.{header_of}
 use Rattle.object.specs.Section.{loaded}
 use Rattle.layout.specs.Layout.{undef_start}
 use Rattle.homes.specs.Home.{section_home}
-use Rattle.layout.specs.LayoutLaws.{ranges_share_none, undef_behind, undef_fits}
+use Rattle.layout.proofs.LayoutLaws.{ranges_share_none, undef_behind, undef_fits}
 use Rattle.fixups.specs.Signed.{signed, slot_keeps}
 use Rattle.fixups.specs.Value.{is_relative}
 use Rattle.fixups.specs.ValueLaws.{Exact, relative_stays, other_rises, no_bit_lost}

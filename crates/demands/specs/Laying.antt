@@ -16,7 +16,7 @@ use Rattle.object.specs.declared.Header.{Header}
 use Rattle.object.specs.Format.{header_of}
 use Rattle.object.specs.Section.{loaded, file_start, file_end, range_length}
 use Rattle.layout.specs.Layout.{start_at, undef_start}
-use Rattle.layout.specs.LayoutLaws.{ranges_share_none}
+use Rattle.layout.proofs.LayoutLaws.{ranges_share_none}
 use Rattle.object.specs.SectionLaws.{file_range}
 use Rattle.limits.specs.Limits.{MAX_PAGES, MAX_EXTERNS}
 use Rattle.image.specs.Laid.{laid_image}

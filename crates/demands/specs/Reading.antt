@@ -15,7 +15,7 @@ use Rattle.object.specs.Format.{HEADER_SIZE, header_of, address_field}
 use Rattle.object.specs.Section.{loaded, uninitialized, file_start, file_end, range_length}
 use Rattle.bounds.specs.Bounds.{size_ok, bytes_ok, data_ok, relocations_ok, section_ok, sections_ok}
 use Rattle.layout.specs.Layout.{undef_start, record_of}
-use Rattle.layout.specs.LayoutLaws.{undef_behind, undef_fits}
+use Rattle.layout.proofs.LayoutLaws.{undef_behind, undef_fits}
 use Rattle.homes.specs.Home.{section_home}
 use Rattle.homes.specs.HomeLaws.{loaded_start}
 use Rattle.externs.specs.Externs.{externs}

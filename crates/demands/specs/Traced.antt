@@ -26,7 +26,7 @@ use Rattle.kinds.specs.Symbol.{listed_by}
 use Rattle.kinds.specs.declared.Place.{Place}
 use Rattle.kinds.specs.declared.Place.TheVariants as place
 use Rattle.layout.specs.Layout.{record_of, table_records, undef_start}
-use Rattle.layout.specs.LayoutLaws.{undef_fits}
+use Rattle.layout.proofs.LayoutLaws.{undef_fits}
 use Rattle.homes.specs.Home.{has_home, section_home, home_record, by_number}
 use Rattle.homes.specs.HomeLaws.{section_most}
 use Rattle.homes.specs.Listed.{of_place, place_home, listed, offset_from, listed_offset, listed_total}
@@ -47,7 +47,8 @@ use Rattle.nearest.specs.declared.RoutineAnswer.{RoutineAnswer}
 use Rattle.nearest.specs.declared.RoutineAnswer.TheVariants.{Found, Refused}
 use Rattle.module.specs.Questions.{section_at, blank, nth}
 use Rattle.module.specs.Routine.{routine, table_sections}
-use Rattle.module.specs.RoutineLaws.{Holder, Unheld, InRoutine, WithoutSymbol, found_is_routine, refused_is}
+use Rattle.module.specs.RoutineLaws.{Holder, Unheld, InRoutine, WithoutSymbol}
+use Rattle.module.proofs.RoutineLaws.{found_is_routine, refused_is}
 use Rattle.storage.specs.Storage.{Storage}
 use Rattle.loading.specs.Load.{Loads}
 use Rattle.loading.specs.declared.answer.Load.TheVariants.{Loaded}

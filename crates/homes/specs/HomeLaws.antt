@@ -15,7 +15,7 @@ use Rattle.arch.specs.Address.{rva, at_same, none_not_at}
 use Rattle.object.specs.declared.Header.{Header}
 use Rattle.object.specs.Section.{loaded, range_length}
 use Rattle.layout.specs.Layout.{start_at, undef_start, mapped_pages, record_of}
-use Rattle.layout.specs.LayoutLaws.{starts_in_order, starts_on_pages, starts_fit, ranges_share_none}
+use Rattle.layout.proofs.LayoutLaws.{starts_in_order, starts_on_pages, starts_fit, ranges_share_none}
 use Rattle.ranks.specs.Named.{TableRecord, Loaded, Undef, Nowhere, first_in}
 use Rattle.ranks.specs.FirstLaws.{found_at}
 use Rattle.homes.specs.Home.{has_home, section_home, home_record, record_start, start_of, kept_word, home_word, word_start, word_home, word_record, homes_to, home_in, record_in}

@@ -14,7 +14,7 @@ use Rattle.object.specs.declared.Header.{Header}
 use Rattle.object.specs.Section.{loaded, file_start, file_end, range_length}
 use Rattle.object.specs.SectionLaws.{file_range}
 use Rattle.layout.specs.Layout.{start_at, undef_start, mapped_pages}
-use Rattle.layout.specs.LayoutLaws.{ranges_apart, ranges_share_none, undef_behind, pages_mapped}
+use Rattle.layout.proofs.LayoutLaws.{ranges_apart, ranges_share_none, undef_behind, pages_mapped}
 use Rattle.arch.specs.declared.Offset.{Offset}
 use Rattle.homes.specs.Home.{section_home, start_of}
 use Rattle.homes.specs.HomeLaws.{loaded_start}

@@ -1,20 +1,16 @@
 -- What the question for an address's routine promises.
 use Rattle.std.specs.Prelude.{◌≡◌, ℕ, zero, suc, ◌/◌, ◌<◌, min, true, false, ◌⊎◌, List, [], ◌∷◌, length}
 use Rattle.std.proofs.Common.{sym, ◌∙◌, inl, inr, ⊎_elim, arith, not-suc-le-zero, le_of_suc-le-suc, ext_get_or}
-use Rattle.std.proofs.Math.Path.{ap}
 use Rattle.util.specs.Pick.{yes_no}
 use Rattle.util.specs.Prefix.{length_list, list_at}
 use Rattle.arch.specs.declared.VA.{VA}
-use Rattle.refusal.specs.Refusal.{NO_SECTION, NO_ROUTINE}
 use Rattle.limits.specs.Records.{SECTION_BYTES}
 use Rattle.section.specs.declared.Section.{Section}
 use Rattle.section.specs.Section.{holds}
-use Rattle.nearest.specs.declared.RoutineAnswer.TheVariants.{Found, Refused}
-use Rattle.nearest.specs.Nearest.{nearest}
-use Rattle.nearest.specs.NearestLaws.{IsNearest, NoneQualifies, nearest_is_found, found_is_nearest, refused_is_none, none_is_refused}
-use Rattle.module.specs.Questions.{numbered, NONE_HOLDS, section_at, table_filled, blank, nth}
-use Rattle.module.specs.QuestionLaws.{first_is, none_is, filled_record, length_fill_to}
-use Rattle.module.specs.Routine.{of_holder, routine, table_sections}
+use Rattle.nearest.specs.NearestLaws.{IsNearest, NoneQualifies}
+use Rattle.module.specs.Questions.{section_at, table_filled, blank, nth}
+use Rattle.module.specs.QuestionLaws.{filled_record, length_fill_to}
+use Rattle.module.specs.Routine.{table_sections}
 
 -- ---- the record that holds an address: the first whose range does
 pub record Holder (t : List Section) (x : VA) (i : ℕ) : Type 0 where
@@ -49,51 +45,19 @@ held_or_none (s ∷ t) x =
     (held_or_none t x))
     (yes_no (holds x s))
 
--- ---- the answer is that of the holder's symbols, or 19
+-- ---- what the answers mean
 module _ (t : List Section) (symbols : List ℕ) (x : VA) where
-  pub by_holder : (i : ℕ) → Holder t x i → routine t symbols x ≡ nearest symbols i x
-  unfolding of_holder
-  by_holder i h = ap (of_holder symbols x) (first_is (holds x) numbered NONE_HOLDS t i h.below h.inside h.first)
-
-  -- 19 where no record holds the address
-  pub outside_is_19 : Unheld t x → routine t symbols x ≡ Refused NO_SECTION
-  unfolding of_holder
-  outside_is_19 n = ap (of_holder symbols x) (none_is (holds x) numbered NONE_HOLDS t n)
-
-  -- 21 where the record that holds it has no symbol at it or below
+  -- the record that holds it has no symbol at it or below
   pub record WithoutSymbol : Type 0 where
     pub section : ℕ
     pub holder : Holder t x section
     pub none : NoneQualifies symbols section x
-
-  pub none_is_21 : WithoutSymbol → routine t symbols x ≡ Refused NO_ROUTINE
-  none_is_21 w = by_holder w.section w.holder ∙ none_is_refused symbols w.section x w.none
-
-  -- and there is no other refusal
-  pub refused_is : (n : ℕ) → routine t symbols x ≡ Refused n → ((n ≡ NO_SECTION) × Unheld t x) ⊎ ((n ≡ NO_ROUTINE) × WithoutSymbol)
-  refused_is n e =
-      ⊎_elim
-      (λ h.
-      let r = refused_is_none symbols h.section x n (sym (by_holder h.section h.holder) ∙ e) in
-      inr (r.0, record { section = h.section; holder = h.holder; none = r.1 }))
-      (λ o. let z : Refused NO_SECTION ≡ Refused n = sym (outside_is_19 o) ∙ e in inl (cc, o))
-      (held_or_none t x)
 
   -- a symbol is answered exactly where it is the nearest of the record that holds the address
   pub record InRoutine (k d : ℕ) : Type 0 where
     pub section : ℕ
     pub holder : Holder t x section
     pub nearest_one : IsNearest symbols section x k d
-
-  pub found_is_routine : (k d : ℕ) → routine t symbols x ≡ Found (record { symbol = k; distance = d }) → InRoutine k d
-  found_is_routine k d e =
-      ⊎_elim
-      (λ h. record { section = h.section; holder = h.holder; nearest_one = found_is_nearest symbols h.section x k d (sym (by_holder h.section h.holder) ∙ e) })
-      (λ n. let z : Refused NO_SECTION ≡ Found (record { symbol = k; distance = d }) = sym (outside_is_19 n) ∙ e in absurd (let w : ◌≡◌ {A = ℕ} 0 1 = cc in omega arith))
-      (held_or_none t x)
-
-  pub routine_is_found : (k d : ℕ) → InRoutine k d → routine t symbols x ≡ Found (record { symbol = k; distance = d })
-  routine_is_found k d r = by_holder r.section r.holder ∙ nearest_is_found symbols r.section x k d r.nearest_one
 
 -- ---- a table that `fill_sections` filled with all records is the one that the C function asks
 pub filled_whole : (table : List ℕ) (t : List Section) → length t ≡ length table / SECTION_BYTES → table_filled table t ≡ table_sections table

@@ -25,7 +25,8 @@ use Rattle.names.specs.Bytes.{run, all_digits, decimal, decimal_to, compare_byte
 use Rattle.names.specs.declared.Digits.{Digits}
 use Rattle.names.specs.declared.Digits.TheVariants as digits
 use Rattle.names.specs.Name.{long_run, symbol_run, SLASH, slash_offset, slash_by, slash_run, section_run, checked, name_bytes, left_from, long_span, span_at, symbol_span, no_span, slash_span, section_span_at, section_span, span_text, is_good}
-use Rattle.names.specs.NameLaws.{slash_is, undef_front}
+use Rattle.names.specs.NameLaws.{undef_front}
+use Rattle.names.proofs.SlashLaws.{slash_is}
 
 left_suc : (i l : ℕ) → i < l → l - i ≡ suc (l - (i + 1))
 left_suc i l h = omega arith

@@ -1,12 +1,12 @@
 -- What a good name is: only bytes that a name may have, and an end where one is due (01, "Records").
 -- A byte past the file reads as 0; the survey's refusals 3 and 4 keep every field and the string table within it.
-use Rattle.std.specs.Prelude.{◌≡◌, refl, Bool, ◌&&◌, not, List, [], ◌∷◌, ◌⊎◌, ℕ, zero, suc, ◌+◌, ◌-◌, ◌≤◌, ◌<◌, min, eqb, length, get_or, take, drop}
+use Rattle.std.specs.Prelude.{◌≡◌, refl, Bool, ◌&&◌, List, [], ◌∷◌, ◌⊎◌, ℕ, zero, suc, ◌+◌, ◌-◌, ◌≤◌, ◌<◌, min, eqb, length, get_or, take, drop}
 use Rattle.std.proofs.Common.{sym, ap, ◌∙◌, inl, inr, ⊎_elim, not-suc-le-zero, arith, drop_of_length-le, drop-cons, add-one}
 use Rattle.std.proofs.Math.Bool.{true, false}
 use Rattle.std.proofs.Math.Dec.{ltb, leb}
 use Rattle.std.proofs.Math.ListN.{get_or-eq_default}
 use Rattle.std.proofs.Math.Seq.{take-nil}
-use borrow.Author.Tests.{leb-true, ltb-true, lt-ltb, eqb-true, eqb-false, eq-eqb}
+use borrow.Author.Tests.{leb-true, ltb-true, lt-ltb, eqb-true, eqb-false}
 use Rattle.util.specs.Pick.{pick, yes_no, le_or_lt, and_left, and_right}
 use Rattle.le.specs.Le.{get, part, IsBytes, length_part, part_none}
 use Rattle.utf8.specs.Utf8.{well_formed}
@@ -20,7 +20,7 @@ use Rattle.names.specs.declared.Name.TheVariants.{Good, Bad}
 use Rattle.names.specs.Bytes.{run, up_to_zero, all_digits, decimal, are_same_bytes, UNDEF}
 use Rattle.names.specs.declared.Digits.{Digits}
 use Rattle.names.specs.declared.Digits.TheVariants as digits
-use Rattle.names.specs.Name.{name_bytes, short_run, long_run, symbol_run, slash_run, slash_offset, slash_by, slash_digits, section_run, checked, section_name_at, symbol_name_at, section_name, symbol_name, SLASH, left_from, long_span, span_at, no_span, slash_span, section_span_at, span_text, symbol_text, section_text, name_refusal, digits_refusal}
+use Rattle.names.specs.Name.{name_bytes, short_run, long_run, symbol_run, slash_run, slash_by, slash_digits, section_run, checked, section_name_at, symbol_name_at, section_name, symbol_name, SLASH, left_from, long_span, span_at, no_span, slash_span, span_text, symbol_text}
 
 -- ---- where a run ends
 -- one more byte: a zero ends the run, any other is passed
@@ -244,27 +244,6 @@ module _ (f : List ℕ) (h : Header) (field at n : ℕ) where
       (λ s. either (eqb (get_or f field 0) 0) Bad (short_run f field) (λ b. bad_found b) (λ k. short_found k) s)
       (checked_is good_symbol_name f (symbol_run f h field) at n e)
 
--- a section's that begins with a slash goes by the offset
-slash_picked : (f : List ℕ) (h : Header) (c : Bool) (o : ℕ) → pick c (long_run f h o) Bad ≡ slash_by f h (pick c (digits.Offset o) digits.Bad)
-unfolding pick slash_by
-slash_picked f h true o = refl
-slash_picked f h false o = refl
-
-pub slash_is : (f : List ℕ) (h : Header) (at : ℕ) → slash_run f h at ≡ slash_by f h (slash_offset f at)
-unfolding slash_run slash_offset
-slash_is f h at = slash_picked f h (leb 2 (run f at NAME_SIZE) && all_digits (slash_digits f at)) (decimal (slash_digits f at))
-
--- where its digits are refused, so is the name, by their number
-module _ (f : List ℕ) (h : Header) (k : ℕ) where
-  by_digits : (d : Digits) → digits_refusal d ≡ suc k → name_refusal (checked good_section_name f (slash_by f h d)) ≡ suc k
-  unfolding checked slash_by
-  by_digits (digits.Offset o) e = absurd (omega arith)
-  by_digits digits.Bad e = e
-
-  pub slash_refused : (at : ℕ) → get_or f at 0 ≡ SLASH → digits_refusal (slash_offset f at) ≡ suc k → name_refusal (section_name_at f h at) ≡ suc k
-  unfolding section_run pick
-  slash_refused at s e = rw (eq-eqb (get_or f at 0) SLASH s, slash_is f h at) (by_digits (slash_offset f at) e)
-
 -- ---- the bytes where a symbol's name stands
 -- the next byte: a zero ends the text, and so does the list's end, which reads as a zero
 pub text_next : (l : List ℕ) (i : ℕ) → up_to_zero (drop i l) ≡ pick (eqb (get_or l i 0) 0) [] (get_or l i 0 ∷ up_to_zero (drop (suc i) l))
@@ -359,28 +338,10 @@ module _ (f : List ℕ) (h : Header) (at n : ℕ) where
       let k : r < left = ltb-true r left (and_right (leb 4 offset) (ltb r left) t) in
       rw (lt-ltb offset (string_length f h) (omega arith)) (long_text f h at n offset e)
 
-  slash_text : (d : Digits) → slash_by f h d ≡ Good at n → span_text f (slash_span f h d) ≡ part f at n
+  pub slash_text : (d : Digits) → slash_by f h d ≡ Good at n → span_text f (slash_span f h d) ≡ part f at n
   unfolding slash_by slash_span
   slash_text (digits.Offset o) e = tail_text o e
   slash_text digits.Bad e = cc
-
-  section_run_text : (field : ℕ) → section_run f h field ≡ Good at n → span_text f (section_span_at f h field) ≡ part f at n
-  unfolding section_run section_span_at pick
-  section_run_text field e = by_slash (eqb (get_or f field 0) SLASH) e
-    where
-      by_slash : (b : Bool) → pick b (slash_run f h field) (short_run f field) ≡ Good at n
-          → span_text f (pick b (slash_span f h (slash_offset f field)) (record { at = field; most = NAME_SIZE })) ≡ part f at n
-      by_slash true q = slash_text (slash_offset f field) (sym (slash_is f h field) ∙ q)
-      by_slash false q =
-          let a : field ≡ at = cc in
-          let r : run f field NAME_SIZE ≡ n = cc in
-          rw (← a, ← r) (sym (text_run f field NAME_SIZE))
-
--- wherever a section's name is good, it is the bytes that it is looked for by
-pub section_name_text : (f : List ℕ) (h : Header) (i at n : ℕ) → section_name f h i ≡ Good at n → section_text f h i ≡ name_bytes f (section_name f h i)
-unfolding name_bytes
-section_name_text f h i at n e =
-    rw e (section_run_text f h at n (section_header_at h i) (checked_is good_section_name f (section_run f h (section_header_at h i)) at n e))
 
 -- ---- a text is one that is shorter than k bytes if its first k bytes are
 same_next : (x : ℕ) (a b y : List ℕ) (t : Bool) → ((w : ℕ) (z : List ℕ) → y ≡ w ∷ z → are_same_bytes a z ≡ are_same_bytes b z) → are_same_bytes (pick t [] (x ∷ a)) y ≡ are_same_bytes (pick t [] (x ∷ b)) y

@@ -22,7 +22,8 @@ use Rattle.names.specs.declared.Digits.{Digits}
 use Rattle.names.specs.declared.Digits.TheVariants as digits
 use Rattle.names.specs.Bytes.{run}
 use Rattle.names.specs.Name.{short_run, long_run, symbol_run, section_run, SLASH, slash_offset, slash_by, checked, section_name, symbol_name}
-use Rattle.names.specs.NameLaws.{run_most, run_zero, run_before, run_long, slash_is}
+use Rattle.names.specs.NameLaws.{run_most, run_zero, run_before, run_long}
+use Rattle.names.proofs.SlashLaws.{slash_is}
 use Rattle.stops.specs.Stops.{strings, BLOCKS, block_stop, stop_count, stops_of}
 use Rattle.stops.specs.StopLaws.{stop_noted}
 use Rattle.stops.specs.Names.{may_end, field, field_ends, field_by, long_to, long_by, slash_name_by, symbol_name_by, section_name_by}

@@ -14,7 +14,7 @@ use Rattle.object.specs.declared.Header.{Header}
 use Rattle.object.specs.Format.{header_of}
 use Rattle.object.specs.Section.{relocation_count}
 use Rattle.layout.specs.Layout.{pages_to, mapped_pages, undef_start}
-use Rattle.layout.specs.LayoutLaws.{undef_fits}
+use Rattle.layout.proofs.LayoutLaws.{undef_fits}
 use Rattle.homes.specs.Home.{home_in, record_in}
 use Rattle.targets.specs.Table.{target_in}
 use Rattle.fixups.specs.Outcome.{outcome}

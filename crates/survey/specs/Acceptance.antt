@@ -40,7 +40,7 @@ use Rattle.survey.specs.declared.answer.Survey.TheVariants.{Accepted}
 use Rattle.survey.specs.Survey.{first_failed, extern_checks, target_checks, outcomes, tally, counts_by, counts, checks, survey_of}
 use Rattle.survey.specs.SurveyLaws.{check_holds, checks_hold, Ordered, ordered, ordered_rest, tells_accepted}
 use Rattle.arch.specs.Machine.{arch_of, arch_by}
-use Rattle.layout.specs.LayoutLaws.{undef_fits}
+use Rattle.layout.proofs.LayoutLaws.{undef_fits}
 use Rattle.fixups.specs.TargetLaws.{target_near}
 use Rattle.fixups.specs.ValueLaws.{Exact, type_addend}
 
