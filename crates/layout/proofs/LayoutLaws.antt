@@ -21,7 +21,7 @@ module _ (f : List ℕ) (h : Header) where
 
   next_not_below : (i : ℕ) → start_at f h i ≤ start_at f h (suc i)
   next_not_below i =
-      ⊎_elim (λ t. let a = next_apart i t in omega arith) (λ t. rw (unloaded_takes_none i t) (le_refl (start_at f h i))) (yes_no (loaded f h i))
+      ⊎_elim (λ t. let a = next_apart f h i t in omega arith) (λ t. rw (unloaded_takes_none i t) (le_refl (start_at f h i))) (yes_no (loaded f h i))
 
   -- ---- all sections
   -- the first loaded section starts at the base: what has only unloaded ones before it starts at offset 0
@@ -35,7 +35,7 @@ module _ (f : List ℕ) (h : Header) where
   unfolding start_at
   starts_on_pages zero = refl
   starts_on_pages (suc i) =
-      ⊎_elim (λ t. rw (loaded_takes_range i t) (up_multiple (start_at f h i + range_length f h i) PAGE_SIZE (omega arith)))
+      ⊎_elim (λ t. rw (loaded_takes_range f h i t) (up_multiple (start_at f h i + range_length f h i) PAGE_SIZE (omega arith)))
       (λ t. rw (unloaded_takes_none i t) (starts_on_pages i))
       (yes_no (loaded f h i))
 
@@ -53,7 +53,7 @@ module _ (f : List ℕ) (h : Header) where
 
   -- a loaded section's range ends before any later section starts
   pub ranges_apart : (i j : ℕ) → loaded f h i ≡ true → i < j → start_at f h i + range_length f h i ≤ start_at f h j
-  ranges_apart i j t q = le_trans (next_apart i t) (starts_in_order (suc i) j q)
+  ranges_apart i j t q = le_trans (next_apart f h i t) (starts_in_order (suc i) j q)
 
   -- and before UNDEF does
   pub undef_behind : (i : ℕ) → loaded f h i ≡ true → i < h.sections → start_at f h i + range_length f h i ≤ undef_start f h
