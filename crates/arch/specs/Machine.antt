@@ -1,11 +1,9 @@
--- The two machines (01, "arch.rs, lib.rs"; PE/COFF, "Machine Types").
-use Rattle.std.specs.Prelude.{◌≡◌, refl, ℕ, eqb}
+-- The two machines (01, "arch.rs, lib.rs"; PE/COFF, "(Option Arch) Types").
+use Rattle.std.specs.Prelude.{◌≡◌, refl, ℕ, eqb, None, Option, Some}
 use Rattle.util.specs.Pick.{pick}
 use Rattle.refusal.specs.Refusal.{MACHINE}
 use Rattle.arch.specs.declared.Arch.{Arch}
 use Rattle.arch.specs.declared.Arch.TheVariants.{X32, X64}
-use Rattle.arch.specs.declared.Machine.{Machine}
-use Rattle.arch.specs.declared.Machine.TheVariants.{Known, Unknown}
 
 -- how many bytes a pointer has
 abbrev pub pointer_size : Arch → ℕ
@@ -18,31 +16,31 @@ machine_of X32 = 0x014C
 machine_of X64 = 0x8664
 
 -- the machine of a number, where there is one
-unfoldable pub arch_of : ℕ → Machine
-arch_of n = pick (eqb n (machine_of X32)) (Known X32) (pick (eqb n (machine_of X64)) (Known X64) Unknown)
+unfoldable pub arch_of : ℕ → Option Arch
+arch_of n = pick (eqb n (machine_of X32)) (Some X32) (pick (eqb n (machine_of X64)) (Some X64) None)
 
 -- the machine of a number that is known; of any other, which is refused before this is asked, the first
-abbrev pub arch_by : Machine → Arch
-arch_by (Known a) = a
-arch_by Unknown = X32
+abbrev pub arch_by : Option Arch → Arch
+arch_by (Some a) = a
+arch_by None = X32
 
 -- the refusal of each case (01, "Survey"), 0 where there is none
-abbrev pub machine_refusal : Machine → ℕ
-machine_refusal (Known a) = 0
-machine_refusal Unknown = MACHINE
+abbrev pub machine_refusal : Option Arch → ℕ
+machine_refusal (Some a) = 0
+machine_refusal None = MACHINE
 
 -- there and back
-pub machine_back : (a : Arch) → arch_of (machine_of a) ≡ Known a
+pub machine_back : (a : Arch) → arch_of (machine_of a) ≡ Some a
 unfolding arch_of pick
 machine_back X32 = refl
 machine_back X64 = refl
 
 -- ---- the ways through `by_machine`
-module _ (m : Machine) (n : ℕ) (is : m ≡ arch_of n) where
-  pub by_known : (a : Arch) → m ≡ Known a → a ≡ arch_by (arch_of n)
+module _ (m : Option Arch) (n : ℕ) (is : m ≡ arch_of n) where
+  pub by_known : (a : Arch) → m ≡ Some a → a ≡ arch_by (arch_of n)
   by_known a e = rw (← is, e)
 
-  pub by_unknown : m ≡ Unknown → X32 ≡ arch_by (arch_of n)
+  pub by_unknown : m ≡ None → X32 ≡ arch_by (arch_of n)
   by_unknown e = rw (← is, e)
 
 pub ruleset machine_ways = (by_known, by_unknown)

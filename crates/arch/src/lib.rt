@@ -10,39 +10,18 @@ mod page;
 pub use page::PAGE_SIZE;
 
 // An address.
-#[derive(Clone, Copy)]
+#[derive(Clone, Copy, PartialEq, Eq)]
 pub struct VA(pub u64);
 
 // An offset from the base. Only with the base does an address become an offset or an offset an address.
-#[derive(Clone, Copy)]
+#[derive(Clone, Copy, PartialEq, Eq)]
 pub struct RVA(pub u64);
 
-// An offset, or none: the address lies below the base, or the sum is past 64 bits.
-#[derive(Clone, Copy)]
-pub enum Offset {
-    At(RVA),
-    None,
-}
-
-// An address, or a sum past 64 bits.
-#[derive(Clone, Copy)]
-pub enum Address {
-    Of(VA),
-    Past,
-}
-
 // The machines that are loaded: i386 and x64.
-#[derive(Clone, Copy)]
+#[derive(Clone, Copy, PartialEq, Eq)]
 pub enum Arch {
     X32,
     X64,
-}
-
-// What a machine number says: a machine that is known, or none.
-#[derive(Clone, Copy)]
-pub enum Machine {
-    Known(Arch),
-    Unknown,
 }
 
 impl Arch {
@@ -79,28 +58,21 @@ impl Arch {
     }
 
     // The machine of a number, where there is one.
-    pub fn of_machine(n: u16) -> Machine
+    #[tactic(auto, using(util::specs::Pick::picks), unfolding(crate::specs::Machine::arch_of))]
+    pub fn of_machine(n: u16) -> Option<Arch>
         ensures { result ≡ arch_of n }
     {
-        let x32 = n == Self::X32_MACHINE;
-        if x32 {
-            return Machine::Known(Arch::X32);
+        match n {
+            Self::X32_MACHINE => Some(Arch::X32),
+            Self::X64_MACHINE => Some(Arch::X64),
+            _ => None,
         }
-        let x64 = n == Self::X64_MACHINE;
-        if x64 {
-            return Machine::Known(Arch::X64);
-        }
-        Machine::Unknown
     }
 
     // The machine of a number that is known; of any other the first.
     pub fn by_machine(n: u16) -> Arch
         ensures { result ≡ arch_by (arch_of n) }
     {
-        let m = Self::of_machine(n);
-        match m {
-            Machine::Known(a) => a,
-            Machine::Unknown => Arch::X32,
-        }
+        Self::of_machine(n).unwrap_or(Arch::X32)
     }
 }

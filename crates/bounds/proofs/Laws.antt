@@ -1,4 +1,5 @@
 -- The ways through the checks. Assumes nothing.
+use Rattle.std.specs.Prelude.{None, Option, Some}
 use mathlib.Core.Path.{◌≡◌, refl, sym, ◌∙◌}
 use mathlib.Core.Bool.{Bool, true, false, ◌&&◌, ◌||◌, not}
 use mathlib.Core.List.{List}
@@ -8,8 +9,6 @@ use lib.ListN.{length}
 use Rattle.util.specs.Pick.{and_left, and_right, not_both}
 use Rattle.util.specs.Prefix.{all_to}
 use Rattle.limits.specs.Limits.{MAX_FILE, MAX_SECTIONS, MAX_SYMBOLS, MAX_RELOCATIONS}
-use Rattle.arch.specs.declared.Machine.{Machine}
-use Rattle.arch.specs.declared.Machine.TheVariants.{Known, Unknown}
 use Rattle.arch.specs.declared.Arch.{Arch}
 use Rattle.arch.specs.Machine.{arch_of}
 use Rattle.object.specs.declared.Header.{Header}
@@ -19,11 +18,11 @@ use Rattle.object.specs.Symbol.{auxiliaries_left}
 use Rattle.bounds.specs.Bounds.{size_ok, machine_ok, section_table_ok, strings_ok, symbol_table_ok, bytes_ok, data_ok, relocations_ok, section_ok, sections_ok, relocation_total}
 
 -- ---- 1, 2 and 3
-module _ (h : Header) (m : Machine) (is : m ≡ arch_of h.machine) where
-  pub machine_known : (a : Arch) → m ≡ Known a → true ≡ machine_ok h
+module _ (h : Header) (m : Option Arch) (is : m ≡ arch_of h.machine) where
+  pub machine_known : (a : Arch) → m ≡ Some a → true ≡ machine_ok h
   machine_known a e = rw (← is, e)
 
-  pub machine_unknown : m ≡ Unknown → false ≡ machine_ok h
+  pub machine_unknown : m ≡ None → false ≡ machine_ok h
   machine_unknown e = rw (← is, e)
 
 module _ (f : List ℕ) where

@@ -17,7 +17,7 @@ ghost use Rattle.bounds.specs.Bounds.{
   sections_ok,
 };
 
-use arch::{Arch, Machine};
+use arch::Arch;
 use object::Header;
 
 // 1: the file has a header, and is not too large.
@@ -36,8 +36,8 @@ pub fn machine_ok(h: Header) -> bool
 {
     let m = Arch::of_machine(h.machine);
     match m {
-        Machine::Known(_) => true,
-        Machine::Unknown => false,
+        Some(_) => true,
+        None => false,
     }
 }
 

@@ -1,4 +1,5 @@
 -- The ways through the code. Assumes nothing.
+use Rattle.std.specs.Ordering.{Ordering, Less, Equal, Greater}
 use mathlib.Core.Path.{◌≡◌, refl, sym, ap, ◌∙◌}
 use mathlib.Core.Bool.{Bool, true, false, ◌&&◌, ◌||◌, and-false}
 use mathlib.Core.List.{List, [], ◌∷◌}
@@ -23,8 +24,6 @@ use Rattle.kinds.specs.declared.Place.{Place}
 use Rattle.rules.specs.declared.Rule.{Rule}
 use Rattle.rules.specs.declared.Rule.TheVariants.{Section, Extern, Slot, Name, Refused}
 use Rattle.rules.specs.Rule.{rule_of}
-use Rattle.names.specs.declared.Order.{Order}
-use Rattle.names.specs.declared.Order.TheVariants.{Less, Equal, Greater}
 use Rattle.names.specs.Bytes.{compare_bytes, are_same_bytes, UNDEF}
 use Rattle.names.specs.OrderLaws.{equal_same, same_equal, same_bytes, bytes_same}
 use Rattle.names.specs.declared.Span.{Span}
@@ -50,7 +49,7 @@ pub ruleset one_code = (code_in, code_past)
 
 -- ---- a section by name
 module _ (f : List ℕ) (h : Header) (name : List ℕ) where
-  module _ (x : ℕ) (t : Span) (o : Order) (is : t ≡ section_span f h x) (by : o ≡ compare_bytes (span_text f t) name) where
+  module _ (x : ℕ) (t : Span) (o : Ordering) (is : t ≡ section_span f h x) (by : o ≡ compare_bytes (span_text f t) name) where
     order_is : o ≡ compare_bytes (section_text f h x) name
     order_is = rw (← is) by
 
@@ -88,7 +87,7 @@ module _ (f : List ℕ) (h : Header) (name : List ℕ) where
     unfolding named_code pick
     of_loaded is e = rw (← is, e) (omega arith)
 
-  module _ (i c : ℕ) (s : Span) (o : Order) (q : s ≡ section_span f h i) (is : o ≡ compare_bytes (span_text f s) name) where
+  module _ (i c : ℕ) (s : Span) (o : Ordering) (q : s ≡ section_span f h i) (is : o ≡ compare_bytes (span_text f s) name) where
     order_there : o ≡ compare_bytes (section_text f h i) name
     order_there = rw (← q) is
 

@@ -15,9 +15,10 @@ ghost use Rattle.ranks.specs.Named.{Loaded};
 ghost use Rattle.codes.specs.Code.{AUXILIARY, named_code, rule_code, code_by_name, codes_to, is_extern, puts_in};
 ghost use Rattle.codes.specs.Draft.{NAMED, undef_named, code_there, drafts_to, some_drafts, final_code, final_codes};
 
-use names::{Order, Span};
+use names::Span;
 use object::{Header, Symbol};
 use rules::Rule;
+use std::cmp::Ordering;
 
 // Codes that stand for one thing; 0 is no record. This one: an auxiliary record, which is refused.
 const AUXILIARY: u16 = 1;
@@ -78,9 +79,9 @@ fn is_before(f: &[u8], h: Header, name: Span, x: u16) -> bool
     ensures { result ≡ lower_than (section_text f.now h) (span_text f.now name) x }
 {
     match order::compare(f, names::section_span(f, h, x as u32), name) {
-        Order::Less => true,
-        Order::Equal => false,
-        Order::Greater => false,
+        Ordering::Less => true,
+        Ordering::Equal => false,
+        Ordering::Greater => false,
     }
 }
 
@@ -142,9 +143,9 @@ fn code_there(f: &[u8], h: Header, name: Span, i: u16) -> u16
     ensures { result ≡ code_there f.now h (span_text f.now name) i }
 {
     match order::compare(f, names::section_span(f, h, i as u32), name) {
-        Order::Less => code_without(f, name),
-        Order::Equal => code_of(f, h, name, i),
-        Order::Greater => code_without(f, name),
+        Ordering::Less => code_without(f, name),
+        Ordering::Equal => code_of(f, h, name, i),
+        Ordering::Greater => code_without(f, name),
     }
 }
 

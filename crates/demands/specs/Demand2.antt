@@ -1,6 +1,6 @@
 -- Of the request's second demand: where our modules stay, the value is PE/COFF's too. (Layout, homes, slots, symbols, fixups and skips as the Rust has them are the definitions themselves;
 -- docs/CLAIMS.md lists them.) What the standard adds and takes away is read off the file: nothing of it is the loader's own answer.
-use Rattle.std.specs.Prelude.{◌≡◌, refl, true, List, ◌⊎◌, eqb, leb, length}
+use Rattle.std.specs.Prelude.{◌≡◌, refl, true, List, ◌⊎◌, eqb, leb, length, None, Option, Some}
 use Rattle.std.proofs.Math.Path.{sym}
 use Rattle.std.proofs.Common.{ap, ◌∙◌, inl, inr, leb-true}
 use Rattle.std.proofs.Math.Logic.{⊎_elim}
@@ -9,8 +9,6 @@ use native.Mathlib.Omega.{arith}
 use Rattle.util.specs.Pick.{pick, and_right, yes_no}
 use Rattle.arch.specs.Page.{PAGE_SIZE}
 use Rattle.arch.specs.declared.RVA.{RVA}
-use Rattle.arch.specs.declared.Offset.{Offset}
-use Rattle.arch.specs.declared.Offset.TheVariants.{At, None}
 use Rattle.arch.specs.Address.{rva, at_same, none_not_at}
 use Rattle.arch.specs.Machine.{arch_of, arch_by}
 use Rattle.le.specs.Le.{get, part}
@@ -35,8 +33,6 @@ use Rattle.rules.specs.declared.Rule.{Rule}
 use Rattle.rules.specs.declared.Rule.TheVariants as rules
 use Rattle.rules.specs.Rule.{data_rule, section_rule, label_rule, unknown_rule, rule_of}
 use Rattle.codes.specs.Code.{symbol_rule}
-use Rattle.externs.specs.declared.Found.{Found}
-use Rattle.externs.specs.declared.Found.TheVariants.{Index, Nothing}
 use Rattle.externs.specs.Externs.{externs}
 use Rattle.externs.specs.Slot.{slot_of}
 use Rattle.targets.specs.declared.Target.{Target}
@@ -71,9 +67,9 @@ standard_value kind addend base symbol place field start = (symbol + field + add
 
 -- ---- of a file: where the section starts that a symbol's own number names; a symbol of no section stands at its name's slot
 -- a slot's offset; 0 where there is none
-abbrev pub slot_start : List ℕ → Found → ℕ
-slot_start f (Index e) = undef_start f (header_of f) + SLOT_SIZE * e
-slot_start f Nothing = 0
+abbrev pub slot_start : List ℕ → Option ℕ → ℕ
+slot_start f (Some e) = undef_start f (header_of f) + SLOT_SIZE * e
+slot_start f None = 0
 
 -- the offset of the slot of symbol j's name
 abbrev pub slot_named : List ℕ → ℕ → ℕ
@@ -138,49 +134,49 @@ pub record Stays (f : List ℕ) (i k : ℕ) : Type 0 where
   pub field : field_of f i k ≡ 0
 
 -- ---- what a target reaches starts there
-abbrev reached : Target → Offset
-reached (Home o) = At o
-reached (Named o) = At o
-reached (Slot o) = At o
+abbrev reached : Target → Option RVA
+reached (Home o) = Some o
+reached (Named o) = Some o
+reached (Slot o) = Some o
 reached (Missing k) = None
 reached Refused = None
 
-reached_is : (g : Target) (o : RVA) → Reaches g o → reached g ≡ At o
+reached_is : (g : Target) (o : RVA) → Reaches g o → reached g ≡ Some o
 reached_is g o r = ⊎_elim (λ e. ap reached e) (⊎_elim (λ e. ap reached e) (λ e. ap reached e)) r.way
 
-home_reached : (x : Offset) → reached (home_target x) ≡ x
+home_reached : (x : Option RVA) → reached (home_target x) ≡ x
 unfolding home_target
-home_reached (At o) = refl
+home_reached (Some o) = refl
 home_reached None = refl
 
 module _ (f : List ℕ) where
   abbrev h : Header
   h = header_of f
 
-  in_section_lem : (n : ℕ) (o : RVA) → reached (home_target (by_number (section_home f h) None n)) ≡ At o → o.0 ≡ start_at f h (n - 1)
+  in_section_lem : (n : ℕ) (o : RVA) → reached (home_target (by_number (section_home f h) None n)) ≡ Some o → o.0 ≡ start_at f h (n - 1)
   unfolding by_number home_target
   in_section_lem zero o e = absurd (none_not_at o e)
   in_section_lem (suc m) o e =
       let z : suc m - 1 ≡ m = omega arith in
       rw z (home_own f h m o (sym (home_reached (section_home f h m)) ∙ e)).start
 
-  in_slot : (s : Found) (o : RVA) → reached (slot_target (undef_start f h) s) ≡ At o → o.0 ≡ slot_start f s
+  in_slot : (s : Option ℕ) (o : RVA) → reached (slot_target (undef_start f h) s) ≡ Some o → o.0 ≡ slot_start f s
   unfolding slot_target
-  in_slot (Index e) o q = sym (at_same (rva (undef_start f h + SLOT_SIZE * e)) o q)
-  in_slot Nothing o q = absurd (none_not_at o q)
+  in_slot (Some e) o q = sym (at_same (rva (undef_start f h + SLOT_SIZE * e)) o q)
+  in_slot None o q = absurd (none_not_at o q)
 
   module _ (j : ℕ) where
     abbrev by_rule : Rule → Target
     by_rule r = rule_target f h (section_home f h) (undef_start f h) (slot_of f h (externs f h)) r j
 
     abbrev Starts : Place → Rule → Type 0
-    Starts p r = Direct r → (o : RVA) → reached (by_rule r) ≡ At o → o.0 ≡ start_by f j p
+    Starts p r = Direct r → (o : RVA) → reached (by_rule r) ≡ Some o → o.0 ≡ start_by f j p
 
     by_number_lem : (n : ℕ) → Starts (places.In n) (rules.Section n)
     unfolding rule_target
     by_number_lem n d o e = in_section_lem n o e
 
-    by_name : (o : RVA) → reached (by_rule rules.Extern) ≡ At o → o.0 ≡ slot_named f j
+    by_name : (o : RVA) → reached (by_rule rules.Extern) ≡ Some o → o.0 ≡ slot_named f j
     unfolding rule_target
     by_name o e = in_slot (slot_of f h (externs f h) (symbol_text f h j)) o e
 
@@ -224,14 +220,14 @@ module _ (f : List ℕ) where
     rule_starts kinds.Unknown p d = unknown_starts p d
     rule_starts kinds.File p d = absurd d
 
-    by_record : (o : RVA) → reached (targets f h j) ≡ At o → reached (by_rule (symbol_rule f h j)) ≡ At o
+    by_record : (o : RVA) → reached (targets f h j) ≡ Some o → reached (by_rule (symbol_rule f h j)) ≡ Some o
     unfolding target_of pick
     by_record o e =
-        ⊎_elim (λ t. let z : None ≡ At o = rw t at e in absurd (none_not_at o z))
+        ⊎_elim (λ t. let z : None ≡ Some o = rw t at e in absurd (none_not_at o z))
         (λ t.
-        let y : reached (pick (primary f h j) (by_rule (symbol_rule f h j)) Refused) ≡ At o = rw t at e in
-        ⊎_elim (λ u. let z : reached (by_rule (symbol_rule f h j)) ≡ At o = rw u at y in z)
-        (λ u. let z : None ≡ At o = rw u at y in absurd (none_not_at o z)) (yes_no (primary f h j)))
+        let y : reached (pick (primary f h j) (by_rule (symbol_rule f h j)) Refused) ≡ Some o = rw t at e in
+        ⊎_elim (λ u. let z : reached (by_rule (symbol_rule f h j)) ≡ Some o = rw u at y in z)
+        (λ u. let z : None ≡ Some o = rw u at y in absurd (none_not_at o z)) (yes_no (primary f h j)))
         (yes_no (leb h.symbols j))
 
     -- S less the symbol's value: a target by a section's number starts where that section does

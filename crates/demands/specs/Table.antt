@@ -1,6 +1,6 @@
 -- 01's table of single facts ("A small object" and below), each over the definitions that the contracts use. What an object can show is shown on
 -- one: computed, or where it is long by the laws of `examples`.
-use Rattle.std.specs.Prelude.{◌≡◌, refl, true, false, List, [], ◌∷◌, ◌++◌, ℕ, ◌+◌, ◌*◌, ◌≤◌, length, get_or}
+use Rattle.std.specs.Prelude.{◌≡◌, refl, true, false, List, [], ◌∷◌, ◌++◌, ℕ, ◌+◌, ◌*◌, ◌≤◌, length, get_or, Some}
 use Rattle.std.proofs.Common.{ap, ◌∙◌, arith, le-leb}
 use Rattle.arch.specs.declared.Arch.TheVariants.{X64}
 use Rattle.arch.specs.Address.{rva}
@@ -41,7 +41,6 @@ use Rattle.utf8.specs.Utf8.{long_rows, begins, length_in, octets}
 use Rattle.chars.specs.Chars.{good_section_name, good_symbol_name}
 use Rattle.names.specs.Bytes.{run, up_to_zero, decimal_to, compare_bytes, are_same_bytes}
 use Rattle.names.specs.Name.{name_bytes, long_run, symbol_run, slash_run, section_run, checked, left_from, long_span, span_at}
-use Rattle.arch.specs.declared.Offset.TheVariants.{At}
 use Rattle.ranks.specs.Named.{first_in, loaded_named}
 use Rattle.homes.specs.Home.{section_home, home_record, record_start, start_of, by_number}
 use Rattle.bounds.specs.Bounds.{size_ok, machine_ok, section_table_ok, strings_ok, symbol_table_ok, bytes_ok, data_ok, relocations_ok, sections_ok}
@@ -262,8 +261,8 @@ small_patched = (demand_3 small_object small_counts table.small 0x20000000 0x200
 -- ---- two uninitialised sections have two homes, and a fixup to a symbol of the second has the standard's value (02, N3)
 pub record TwoUninitialized : Type 0 where
   pub accepted : survey_of two_uninitialized ≡ Accepted (counts_with 4 3 1 0 1 2 1 1)
-  pub first : section_home two_uninitialized (header_of two_uninitialized) 0 ≡ At (rva 0)
-  pub second : section_home two_uninitialized (header_of two_uninitialized) 1 ≡ At (rva 0x1000)
+  pub first : section_home two_uninitialized (header_of two_uninitialized) 0 ≡ Some (rva 0)
+  pub second : section_home two_uninitialized (header_of two_uninitialized) 1 ≡ Some (rva 0x1000)
   pub ours : fixup_value two_uninitialized 0x20000000 0 ≡ 0x20001000
   pub standard : standard_at two_uninitialized 0 0 0x20000000 ≡ 0x20001000
 

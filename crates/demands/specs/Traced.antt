@@ -1,5 +1,5 @@
 -- The routine of an address, asked of the tables that an accepted load leaves (02, N1): the answer in terms of the file's own records.
-use Rattle.std.specs.Prelude.{◌≡◌, refl, Bool, List, ◌⊎◌, ℕ, zero, suc, ◌+◌, ◌-◌, ◌*◌, ◌/◌, ◌^◌, ◌≤◌, ◌<◌, leb, ltb}
+use Rattle.std.specs.Prelude.{◌≡◌, refl, Bool, List, ◌⊎◌, ℕ, zero, suc, ◌+◌, ◌-◌, ◌*◌, ◌/◌, ◌^◌, ◌≤◌, ◌<◌, leb, ltb, None, Option, Some}
 use Rattle.std.proofs.Common.{sym, subst, ◌∙◌, eq-or-lt_of_le}
 use Rattle.std.proofs.Math.Path.{ap}
 use Rattle.std.proofs.Math.Bool.{true, false}
@@ -15,8 +15,6 @@ use Rattle.le.specs.Le.{part, IsBytes, get_below}
 use Rattle.arch.specs.Page.{PAGE_SIZE}
 use Rattle.arch.specs.Address.{va, none_not_at}
 use Rattle.arch.specs.declared.RVA.{RVA}
-use Rattle.arch.specs.declared.Offset.{Offset}
-use Rattle.arch.specs.declared.Offset.TheVariants.{At, None}
 use Rattle.refusal.specs.Refusal.{NO_SECTION, NO_ROUTINE}
 use Rattle.object.specs.declared.Header.{Header}
 use Rattle.object.specs.Format.{VALUE_AT, header_of, symbol_record_at, symbol_value}
@@ -122,13 +120,13 @@ FileSays f base symbols x (Found a) = RoutineInFile f base symbols x a.symbol a.
 FileSays f base symbols x (Refused n) = ((n ≡ NO_SECTION) × NoHolder f base x) ⊎ ((n ≡ NO_ROUTINE) × NoSymbolBelow f base x)
 
 -- ---- what the words of the symbol table have room for
-offset_most : (w : Offset) (v m : ℕ) → ((o : RVA) → w ≡ At o → o.0 ≤ m) → offset_from w v ≤ m + v
+offset_most : (w : Option RVA) (v m : ℕ) → ((o : RVA) → w ≡ Some o → o.0 ≤ m) → offset_from w v ≤ m + v
 unfolding offset_from
-offset_most (At o) v m h = let q = h o refl in omega arith
+offset_most (Some o) v m h = let q = h o refl in omega arith
 offset_most None v m h = omega arith
 
 module _ (f : List ℕ) (h : Header) where
-  start_most : (p : Place) (o : RVA) → place_home (section_home f h) p ≡ At o → o.0 ≤ undef_start f h
+  start_most : (p : Place) (o : RVA) → place_home (section_home f h) p ≡ Some o → o.0 ≤ undef_start f h
   unfolding of_place by_number
   start_most (place.In zero) o e = absurd (none_not_at o e)
   start_most (place.In (suc i)) o e = section_most f h i o e

@@ -1,5 +1,5 @@
 -- Where `names_object` is laid, and that its records pass survey's checks 1 to 8.
-use Rattle.std.specs.Prelude.{◌≡◌, true, false, List, ℕ, ◌+◌, ◌*◌, ◌/◌, ◌≤◌, eqb}
+use Rattle.std.specs.Prelude.{◌≡◌, true, false, List, ℕ, ◌+◌, ◌*◌, ◌/◌, ◌≤◌, eqb, Some}
 use Rattle.std.proofs.Math.Path.{refl}
 use Rattle.std.proofs.Common.{arith}
 use borrow.Author.Tests.{ne_eqb, le-leb}
@@ -9,7 +9,6 @@ use Rattle.util.specs.Align.{round_up}
 use Rattle.arch.specs.Address.{rva}
 use Rattle.arch.specs.Machine.{arch_of}
 use Rattle.arch.specs.Page.{PAGE_SIZE}
-use Rattle.arch.specs.declared.Offset.TheVariants.{At}
 use Rattle.le.specs.Le.{le, part}
 use Rattle.limits.specs.Limits.{MAX_FILE, MAX_SYMBOLS, MAX_RELOCATIONS, MAX_PAGES}
 use Rattle.kinds.specs.Flags.{loaded_by, align_of}
@@ -56,7 +55,7 @@ module _ (n m : ℕ) (names : n ≤ MAX_NAMES) (most : m ≤ MAX_RELOCATIONS) wh
   pages_are = let e = undef_is in omega arith
 
   -- .text is its own home, at the base
-  pub home_is : section_home f h 0 ≡ At (rva 0)
+  pub home_is : section_home f h 0 ≡ Some (rva 0)
   unfolding section_home start_at pick
   home_is = rw text_loaded
 

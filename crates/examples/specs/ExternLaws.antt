@@ -1,4 +1,5 @@
 -- The extern list of `names_object` is its symbols in their order: each relocation puts a name behind all that are there, or the last one again.
+use Rattle.std.specs.Ordering.{Greater}
 use Rattle.std.specs.Prelude.{◌≡◌, true, length, get_or}
 use Rattle.std.proofs.Math.Path.{refl, ap}
 use Rattle.std.proofs.Common.{sym, ◌∙◌, ⊎_elim}
@@ -16,7 +17,6 @@ use Rattle.kinds.specs.declared.SymbolKind.TheVariants.{Data}
 use Rattle.kinds.specs.declared.Place.TheVariants.{Undefined}
 use Rattle.kinds.specs.Symbol.{is_function, code_or_data, kind_by, zero_place, place_by}
 use Rattle.rules.specs.declared.Rule.TheVariants.{Extern}
-use Rattle.names.specs.declared.Order.TheVariants.{Greater}
 use Rattle.names.specs.Name.{symbol_text}
 use Rattle.names.specs.OrderLaws.{compare_self}
 use Rattle.codes.specs.Code.{symbol_rule}

@@ -1,4 +1,5 @@
 -- The names of `names_object` are good, and they rise with the numbers of their symbols.
+use Rattle.std.specs.Ordering.{Less, Greater}
 use Rattle.std.specs.Prelude.{◌≡◌, true, false, List, ℕ, ◌+◌, ◌*◌, ◌/◌, ◌%◌, ◌≤◌, ◌<◌, eqb, length, get_or}
 use Rattle.std.proofs.Common.{sym, ◌∙◌, ⊎_elim, ext_get_or}
 use Rattle.std.proofs.Math.Path.{ap}
@@ -10,7 +11,6 @@ use Rattle.util.specs.Prefix.{all_to}
 use Rattle.le.specs.Le.{get, part, part_at, length_part}
 use Rattle.object.specs.declared.Header.{Header}
 use Rattle.object.specs.Format.{symbol_record_at}
-use Rattle.names.specs.declared.Order.TheVariants.{Less, Greater}
 use Rattle.names.specs.declared.Name.TheVariants.{Good}
 use Rattle.chars.specs.Chars.{good_section_name, good_symbol_name}
 use Rattle.chars.specs.GoodLaws.{visible_good}

@@ -1,6 +1,6 @@
 -- What `names_object` comes to, for every n from 1 on and every m from n to 32,768: with up to 1,024 names it is accepted, and the last slot is at
 -- UNDEF + 4 * (n - 1); with more, up to 4,096, it is refused by 9.
-use Rattle.std.specs.Prelude.{◌≡◌, Bool, true, false, List, [], ◌∷◌, ◌++◌, length, get_or}
+use Rattle.std.specs.Prelude.{◌≡◌, Bool, true, false, List, [], ◌∷◌, ◌++◌, length, get_or, Some}
 use Rattle.std.proofs.Math.Path.{refl}
 use Rattle.std.proofs.Common.{ap, ◌∙◌, arith}
 use Rattle.std.proofs.Math.Bool.{and-false}
@@ -25,7 +25,6 @@ use Rattle.layout.specs.Layout.{undef_start, table_records}
 use Rattle.homes.specs.Home.{section_home}
 use Rattle.homes.specs.Listed.{of_place, listed, listed_total}
 use Rattle.codes.specs.Puts.{puts}
-use Rattle.externs.specs.declared.Found.TheVariants.{Index}
 use Rattle.externs.specs.Externs.{externs}
 use Rattle.externs.specs.Slot.{slot_of}
 use Rattle.externs.specs.ExternLaws.{externs_own}
@@ -73,7 +72,7 @@ module _ (n m : ℕ) (some : 1 ≤ n) (names : n ≤ MAX_NAMES) (all : n ≤ m) 
   entry_is k q = rw (externs_are n m names most some all) (list_at (λ (j : ℕ). j) 0 n k q)
 
   -- and symbol k has slot k
-  slot_is : (k : ℕ) → k < n → slot_of f h (externs f h) (symbol_text f h k) ≡ Index k
+  slot_is : (k : ℕ) → k < n → slot_of f h (externs f h) (symbol_text f h k) ≡ Some k
   slot_is k q = rw (entry_is k q) at (externs_own f h (puts f h) k (rw length_externs q))
 
   target_is : (k : ℕ) → k < n → targets f h k ≡ Slot (rva (slot_at m k))

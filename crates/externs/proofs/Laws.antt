@@ -1,4 +1,6 @@
 -- The ways through the readers, and the loops over the list of externs. Assumes nothing.
+use Rattle.std.specs.Prelude.{None, Option, Some, Err, Ok, Result}
+use Rattle.std.specs.Ordering.{Ordering, Less, Equal, Greater}
 use Rattle.le.specs.Le.{splice, splice_next, splice_above, fill_none, fill_again, fill_end, IsBytes}
 use mathlib.Core.Path.{◌≡◌, refl, sym, ap, ◌∙◌}
 use mathlib.Core.Bool.{Bool, true, false}
@@ -14,8 +16,6 @@ use lib.Seq.{drop-cons, take-suc, take-take, length-take-le, get_or-take, take-s
 use Rattle.util.specs.Pick.{pick, le_or_lt}
 use Rattle.util.specs.Prefix.{length_list}
 use Rattle.object.specs.declared.Header.{Header}
-use Rattle.names.specs.declared.Order.{Order}
-use Rattle.names.specs.declared.Order.TheVariants.{Less, Equal, Greater}
 use Rattle.names.specs.Bytes.{are_same_bytes, compare_bytes}
 use Rattle.names.specs.OrderLaws.{less_less, less_not_self}
 use Rattle.names.specs.declared.Span.{Span}
@@ -37,10 +37,6 @@ use Rattle.externs.specs.Slotted.{found_code, takes_slot, settled, slotted_code,
 use Rattle.codes.specs.Code.{NO_SLOT, SPAN, SLOTS}
 use Rattle.externs.specs.declared.Names.{Names}
 use Rattle.externs.specs.declared.Names.TheVariants.{TooMany, Count}
-use Rattle.externs.specs.declared.Spot.{Spot}
-use Rattle.externs.specs.declared.Spot.TheVariants.{Before, Present}
-use Rattle.externs.specs.declared.Found.{Found}
-use Rattle.externs.specs.declared.Found.TheVariants.{Index, Nothing}
 
 -- ---- the place of j: the names of xs before i all come before j's
 unfoldable pub Passed : List ℕ → Header → ℕ → List ℕ → ℕ → Type 0
@@ -70,7 +66,7 @@ module _ (f : List ℕ) (h : Header) (j : ℕ) where
   unfolding Passed
   spot_none xs = refl
 
-  module _ (l : List ℕ) (n i : ℕ) (r : Order) (name : Span) (is : name ≡ symbol_span f h j) where
+  module _ (l : List ℕ) (n i : ℕ) (r : Ordering) (name : Span) (is : name ≡ symbol_span f h j) where
     pub spot_less : i < n → n ≤ length l → r ≡ name_order f h (span_text f name) (get_or l i 0) → r ≡ Less → Passed f h j (held n l) i
         → insert_name f h j (held n l) ≡ put_at i j (held n l)
     unfolding Passed put_at insert_name
@@ -105,43 +101,43 @@ module _ (f : List ℕ) (h : Header) (j : ℕ) where
       simp (drop_of_length-le (take n l) g) (simp (drop_of_length-le (take n l) g) at q)
 
 module _ (f : List ℕ) (h : Header) (j n : ℕ) (xs : List ℕ) (p : ℕ) where
-  pub placed_before : p ≤ n → insert_name f h j xs ≡ put_at p j xs → Placed f h j n xs (Before p)
+  pub placed_before : p ≤ n → insert_name f h j xs ≡ put_at p j xs → Placed f h j n xs (Err p)
   unfolding Placed
   placed_before k e = (k, e)
 
-  pub placed_present : p < n → insert_name f h j xs ≡ lower_at p j xs → order_of f h j (get_or xs p 0) ≡ Equal → Placed f h j n xs (Present p)
+  pub placed_present : p < n → insert_name f h j xs ≡ lower_at p j xs → order_of f h j (get_or xs p 0) ≡ Equal → Placed f h j n xs (Ok p)
   unfolding Placed
   placed_present k e o = (k, e, o)
 
 pub ruleset spot_loop = (spot_less, spot_same, spot_equal, spot_end, placed_before, placed_present)
 
 -- and back, as `insert` asks it
-module _ (f : List ℕ) (h : Header) (j n : ℕ) (xs : List ℕ) (s : Spot) (p : ℕ) (q : Placed f h j n xs s) where
-  pub before_room : s ≡ Before p → p ≤ n
+module _ (f : List ℕ) (h : Header) (j n : ℕ) (xs : List ℕ) (s : Result ℕ ℕ) (p : ℕ) (q : Placed f h j n xs s) where
+  pub before_room : s ≡ Err p → p ≤ n
   unfolding Placed
   before_room e = (rw e at q).0
 
-  pub before_list : s ≡ Before p → insert_name f h j xs ≡ put_at p j xs
+  pub before_list : s ≡ Err p → insert_name f h j xs ≡ put_at p j xs
   unfolding Placed
   before_list e = (rw e at q).1
 
-  pub present_room : s ≡ Present p → p < n
+  pub present_room : s ≡ Ok p → p < n
   unfolding Placed
   present_room e = (rw e at q).0
 
-  pub present_list : s ≡ Present p → insert_name f h j xs ≡ lower_at p j xs
+  pub present_list : s ≡ Ok p → insert_name f h j xs ≡ lower_at p j xs
   unfolding Placed
   present_list e = (rw e at q).1
 
-  present_order : s ≡ Present p → order_of f h j (get_or xs p 0) ≡ Equal
+  present_order : s ≡ Ok p → order_of f h j (get_or xs p 0) ≡ Equal
   unfolding Placed
   present_order e = (rw e at q).2
 
-module _ (f : List ℕ) (h : Header) (j n : ℕ) (l m : List ℕ) (s : Spot) (p : ℕ) (q : Placed f h j n (held n l) s) where
-  pub insert_before : (k : ℕ) (ks after : List ℕ) → s ≡ Before p → PutBoth l ks n p j k m after → Inserted f h j l n m (n + 1)
+module _ (f : List ℕ) (h : Header) (j n : ℕ) (l m : List ℕ) (s : Result ℕ ℕ) (p : ℕ) (q : Placed f h j n (held n l) s) where
+  pub insert_before : (k : ℕ) (ks after : List ℕ) → s ≡ Err p → PutBoth l ks n p j k m after → Inserted f h j l n m (n + 1)
   insert_before k ks after e y = record { room = omega arith; list = y.list ∙ sym (before_list f h j n (held n l) s p q e) }
 
-  pub insert_present : s ≡ Present p → held n m ≡ lower_at p j (held n l) → Inserted f h j l n m n
+  pub insert_present : s ≡ Ok p → held n m ≡ lower_at p j (held n l) → Inserted f h j l n m n
   insert_present e y = record { room = omega arith; list = y ∙ sym (present_list f h j n (held n l) s p q e) }
 
 -- ---- the keys beside the list
@@ -186,13 +182,13 @@ module _ (f : List ℕ) (h : Header) where
       let its = sym (get_held ks n p lt beside) ∙ ap (λ (m : List ℕ). get_or m p 0) e ∙ keys_at (held n l) p here in
       rw (get_held l n p lt room) at its
 
-  module _ (j n : ℕ) (l m ks : List ℕ) (s : Spot) (p : ℕ) (q : Placed f h j n (held n l) s) (e : InStep f h l ks n) where
-    pub step_before : (after : List ℕ) (k : ℕ) → s ≡ Before p → k ≡ symbol_key f h j → PutBoth l ks n p j k m after → InStep f h m after (n + 1)
+  module _ (j n : ℕ) (l m ks : List ℕ) (s : Result ℕ ℕ) (p : ℕ) (q : Placed f h j n (held n l) s) (e : InStep f h l ks n) where
+    pub step_before : (after : List ℕ) (k : ℕ) → s ≡ Err p → k ≡ symbol_key f h j → PutBoth l ks n p j k m after → InStep f h m after (n + 1)
     unfolding InStep
     step_before after k is d b =
         b.beside ∙ (ap (λ (x : ℕ). put_at p x (held n ks)) d ∙ ap (put_at p (symbol_key f h j)) e) ∙ keys_put p j (held n l) ∙ ap (keys_of f h) (sym b.list)
 
-    pub step_present : s ≡ Present p → n < length l → held n m ≡ lower_at p j (held n l) → InStep f h m ks n
+    pub step_present : s ≡ Ok p → n < length l → held n m ≡ lower_at p j (held n l) → InStep f h m ks n
     unfolding InStep
     step_present is room y =
         let k : p < length (held n l) = rw (held_length n l (omega arith)) (present_room f h j n (held n l) s p q is) in
@@ -281,7 +277,7 @@ module _ (f : List ℕ) (h : Header) (j n k : ℕ) (l ks : List ℕ) (m : (i : �
   pub spot_first : (r : ℕ) → Skipped ks n 0 k r → Passed f h j (held n l) r
   spot_first r s = passed_skip 0 r (spot_none f h j (held n l)) s
 
-  pub spot_on : (i r : ℕ) (o : Order) (name : Span) → name ≡ symbol_span f h j → i < n → o ≡ name_order f h (span_text f name) (get_or l i 0) → o ≡ Greater
+  pub spot_on : (i r : ℕ) (o : Ordering) (name : Span) → name ≡ symbol_span f h j → i < n → o ≡ name_order f h (span_text f name) (get_or l i 0) → o ≡ Greater
       → Passed f h j (held n l) i → Skipped ks n (i + 1) k r → Passed f h j (held n l) r
   spot_on i r o name is lt w g q s = passed_skip (i + 1) r (spot_more f h j l n i o name is lt room w g q) s
 
@@ -382,7 +378,7 @@ module _ (ys l : List ℕ) where
 
 -- ---- the search in halves: the n entries from lo have the answer
 module _ (f : List ℕ) (h : Header) (name list : List ℕ) where
-  halves_none : (turns lo n : ℕ) → n ≤ 0 → halves f h list name turns lo n ≡ Nothing
+  halves_none : (turns lo n : ℕ) → n ≤ 0 → halves f h list name turns lo n ≡ None
   unfolding halves pick
   halves_none zero lo n k = refl
   halves_none (suc turns) lo n k = rw (eq-eqb n 0 (omega arith))
@@ -401,9 +397,9 @@ module _ (f : List ℕ) (h : Header) (name list : List ℕ) where
       (le_or_lt n 0)
 
   -- a turn of the loop
-  halves_turn : (lo n : ℕ) (o : Order) → 0 < n → o ≡ name_order f h name (get_or list (lo + n / 2) 0)
+  halves_turn : (lo n : ℕ) (o : Ordering) → 0 < n → o ≡ name_order f h name (get_or list (lo + n / 2) 0)
       → halves f h list name n lo n
-      ≡ by_side o (halves f h list name (n / 2) lo (n / 2)) (Index (lo + n / 2)) (halves f h list name (n - n / 2 - 1) (lo + n / 2 + 1) (n - n / 2 - 1))
+      ≡ by_side o (halves f h list name (n / 2) lo (n / 2)) (Some (lo + n / 2)) (halves f h list name (n - n / 2 - 1) (lo + n / 2 + 1) (n - n / 2 - 1))
   unfolding halves pick
   halves_turn lo n o k e =
       let s : halves f h list name n lo n ≡ halves f h list name (suc n) lo n = halves_enough n (suc n) lo n (omega arith) (omega arith) in
@@ -411,17 +407,17 @@ module _ (f : List ℕ) (h : Header) (name list : List ℕ) where
       let r = halves_enough n (n - n / 2 - 1) (lo + n / 2 + 1) (n - n / 2 - 1) (omega arith) (omega arith) in
       rw (s, ne_eqb n 0 (λ z. omega arith), ← e, l, r)
 
-  module _ (lo n : ℕ) (x : Found) (o : Order) (more : 0 < n) (e : o ≡ name_order f h name (get_or list (lo + n / 2) 0)) where
+  module _ (lo n : ℕ) (x : Option ℕ) (o : Ordering) (more : 0 < n) (e : o ≡ name_order f h name (get_or list (lo + n / 2) 0)) where
     pub half_left : o ≡ Less → halves f h list name n lo n ≡ x → halves f h list name (n / 2) lo (n / 2) ≡ x
     half_left t q = rw t at (sym (halves_turn lo n o more e)) ∙ q
 
-    pub half_here : o ≡ Equal → halves f h list name n lo n ≡ x → Index (lo + n / 2) ≡ x
+    pub half_here : o ≡ Equal → halves f h list name n lo n ≡ x → Some (lo + n / 2) ≡ x
     half_here t q = rw t at (sym (halves_turn lo n o more e)) ∙ q
 
     pub half_right : o ≡ Greater → halves f h list name n lo n ≡ x → halves f h list name (n - n / 2 - 1) (lo + n / 2 + 1) (n - n / 2 - 1) ≡ x
     half_right t q = rw t at (sym (halves_turn lo n o more e)) ∙ q
 
-  pub half_none : (lo n : ℕ) (x : Found) → n ≤ 0 → halves f h list name n lo n ≡ x → Nothing ≡ x
+  pub half_none : (lo n : ℕ) (x : Option ℕ) → n ≤ 0 → halves f h list name n lo n ≡ x → None ≡ x
   half_none lo n x k q = sym (halves_none n lo n k) ∙ q
 
 -- ---- in a list that rises, with its keys
@@ -455,19 +451,19 @@ module _ (f : List ℕ) (h : Header) (name : Span) (a x b : ℕ) (m : (i : ℕ) 
 pub ruleset entry_ways = (entry_less, entry_greater)
 
 -- ---- the slots into the codes
-module _ (found : Found) where
-  pub code_index : (e : ℕ) → found ≡ Index e → e % SPAN + SLOTS ≡ found_code found
+module _ (found : Option ℕ) where
+  pub code_index : (e : ℕ) → found ≡ Some e → e % SPAN + SLOTS ≡ found_code found
   unfolding found_code
   code_index e q = rw q (omega arith)
 
-  pub code_nothing : found ≡ Nothing → NO_SLOT ≡ found_code found
+  pub code_nothing : found ≡ None → NO_SLOT ≡ found_code found
   unfolding found_code
   code_nothing q = rw q
 
 pub ruleset slot_codes = (code_index, code_nothing)
 
 module _ (f : List ℕ) (h : Header) (slots : List ℕ) (j c : ℕ) (b : Bool) (is : b ≡ takes_slot c) where
-  pub slot_taken : (x : Found) (r : ℕ) → b ≡ true → x ≡ slot_of f h slots (symbol_text f h j) → r ≡ found_code x → r ≡ slotted_code c (slot_of f h slots (symbol_text f h j))
+  pub slot_taken : (x : Option ℕ) (r : ℕ) → b ≡ true → x ≡ slot_of f h slots (symbol_text f h j) → r ≡ found_code x → r ≡ slotted_code c (slot_of f h slots (symbol_text f h j))
   unfolding slotted_code pick
   slot_taken x r t q p = rw (← is, t, ← q) p
 
@@ -499,7 +495,7 @@ pub ruleset slots_loop = (fill_none, slots_again, fill_end)
 pub same_by : (s t name : List ℕ) {r : Bool} → r ≡ are_same_bytes s name → s ≡ t → r ≡ are_same_bytes t name
 same_by s t name p q = rw (← q) p
 
-pub order_by : (f : List ℕ) (h : Header) (a s : Span) (x : ℕ) {r : Order} → r ≡ compare_bytes (span_text f a) (span_text f s) → s ≡ symbol_span f h x → r ≡ name_order f h (span_text f a) x
+pub order_by : (f : List ℕ) (h : Header) (a s : Span) (x : ℕ) {r : Ordering} → r ≡ compare_bytes (span_text f a) (span_text f s) → s ≡ symbol_span f h x → r ≡ name_order f h (span_text f a) x
 order_by f h a s x p q = rw (← q) p
 
 -- ---- zeros behind the list

@@ -1,4 +1,5 @@
 -- The loops that gather the names: over the records of a section, and over the sections; what is left in the codes meanwhile. Assumes nothing.
+use Rattle.std.specs.Prelude.{Option}
 use mathlib.Core.Path.{◌≡◌, refl, sym, ap, ◌∙◌, fun_ext}
 use mathlib.Core.Bool.{Bool, true, false}
 use mathlib.Core.List.{List, [], ◌∷◌, ◌++◌}
@@ -25,7 +26,6 @@ use Rattle.names.specs.Name.{symbol_text}
 use Rattle.codes.specs.Code.{SLOT, EXTERN, UNDEF_RECORD, UNDEF_EXTERN, is_extern, puts_in}
 use Rattle.externs.specs.declared.Names.{Names}
 use Rattle.externs.specs.declared.Names.TheVariants.{TooMany, Count}
-use Rattle.externs.specs.declared.Found.{Found}
 use Rattle.externs.specs.Externs.{insert_name, extern_step, extern_records, externs_to, Holds, names_of, slot_words}
 use Rattle.externs.specs.ExternLaws.{records_grow, sections_grow, records_rise, records_keep, over_length, count_room, count_list}
 use Rattle.externs.specs.Held.{held, Inserted}
@@ -90,7 +90,7 @@ unfolding spent pick
 spent_puts c = ⊎_elim (λ e. rw e) (λ e. rw e) (yes_no (eqb c UNDEF_EXTERN))
 
 -- and comes to what it would come to
-spent_slotted : (c : ℕ) (x : Found) → is_extern c ≡ true → slotted_code (spent c) x ≡ slotted_code c x
+spent_slotted : (c : ℕ) (x : Option ℕ) → is_extern c ≡ true → slotted_code (spent c) x ≡ slotted_code c x
 unfolding spent slotted_code settled pick
 spent_slotted c x t =
     ⊎_elim (λ e. let z : c ≡ EXTERN = eqb-true c EXTERN e in rw z)

@@ -1,17 +1,14 @@
 -- The search in halves finds the slot: in every sorted list it answers as the plain search does, so in the list of externs.
-use Rattle.std.specs.Prelude.{◌≡◌, refl, Bool, List, length, get_or}
+use Rattle.std.specs.Ordering.{Ordering, Less, Equal, Greater}
+use Rattle.std.specs.Prelude.{◌≡◌, refl, Bool, List, length, get_or, None, Option, Some}
 use Rattle.std.proofs.Common.{sym, ap, ◌∙◌, arith, eq-eqb, ne_eqb}
 use Rattle.std.proofs.Math.Logic.{⊎_elim}
 use Prim.Native.Nat.{ℕ, zero, suc, ◌+◌, ◌-◌, ◌/◌, ◌≤◌, ◌<◌}
 use Rattle.util.specs.Pick.{pick, le_or_lt, three_ways}
 use Rattle.object.specs.declared.Header.{Header}
-use Rattle.names.specs.declared.Order.{Order}
-use Rattle.names.specs.declared.Order.TheVariants.{Less, Equal, Greater}
 use Rattle.names.specs.Bytes.{compare_bytes}
 use Rattle.names.specs.Name.{symbol_text}
 use Rattle.names.specs.OrderLaws.{equal_same, less_not_self, less_less, greater_less}
-use Rattle.externs.specs.declared.Found.{Found}
-use Rattle.externs.specs.declared.Found.TheVariants.{Index, Nothing}
 use Rattle.externs.specs.Externs.{externs_by}
 use Rattle.externs.specs.Slot.{slot_of}
 use Rattle.externs.specs.SlotLaws.{slot_of_entry, slot_inside, slot_named_lem}
@@ -25,14 +22,14 @@ module _ (f : List ℕ) (h : Header) (list name : List ℕ) where
   Within lo n = (e : ℕ) → e < length list → symbol_text f h (get_or list e 0) ≡ name → (lo ≤ e) × (e < lo + n)
 
   -- a name that no entry has
-  slot_none : (lo : ℕ) → Within lo 0 → Nothing ≡ slot_of f h list name
+  slot_none : (lo : ℕ) → Within lo 0 → None ≡ slot_of f h list name
   slot_none lo w = by_found (slot_of f h list name) refl
     where
-      by_found : (s : Found) → slot_of f h list name ≡ s → Nothing ≡ s
-      by_found (Index e) q =
+      by_found : (s : Option ℕ) → slot_of f h list name ≡ s → None ≡ s
+      by_found (Some e) q =
           let k = w e (slot_inside f h name list e q) (slot_named_lem f h name list e q) in
           absurd (omega arith)
-      by_found Nothing q = refl
+      by_found None q = refl
 
   module _ (r : Rising f h list) (m : ℕ) where
     -- a name that comes before entry m's stands before m, one that comes after it behind m, and an equal one there
@@ -55,21 +52,21 @@ module _ (f : List ℕ) (h : Header) (list name : List ℕ) where
         (⊎_elim (λ q. absurd (less_not_self b (rw q at p))) (λ q. q))
         (three_ways e m)
 
-    here : name_order f h name (get_or list m 0) ≡ Equal → m < length list → Index m ≡ slot_of f h list name
+    here : name_order f h name (get_or list m 0) ≡ Equal → m < length list → Some m ≡ slot_of f h list name
     here o inside =
         let n : name ≡ symbol_text f h (get_or list m 0) = equal_same name (symbol_text f h (get_or list m 0)) o in
         let s = slot_of_entry f h name list m inside (sym n) in
         let z : m ≡ s.index = rising_once f h list m s.index r inside s.inside (sym n ∙ sym s.named) in
-        ap Index z ∙ sym s.found
+        ap Some z ∙ sym s.found
 
   -- one turn, from what the two halves answer
-  turn_slot : Rising f h list → (lo n : ℕ) (left right : Found) → 0 < n → lo + n ≤ length list → Within lo n
+  turn_slot : Rising f h list → (lo n : ℕ) (left right : Option ℕ) → 0 < n → lo + n ≤ length list → Within lo n
       → (Within lo (n / 2) → left ≡ slot_of f h list name)
       → (Within (lo + n / 2 + 1) (n - n / 2 - 1) → right ≡ slot_of f h list name)
-      → by_side (name_order f h name (get_or list (lo + n / 2) 0)) left (Index (lo + n / 2)) right ≡ slot_of f h list name
+      → by_side (name_order f h name (get_or list (lo + n / 2) 0)) left (Some (lo + n / 2)) right ≡ slot_of f h list name
   turn_slot r lo n left right more fits w on-left on-right = by_order_lem (name_order f h name (get_or list (lo + n / 2) 0)) refl
     where
-      by_order_lem : (o : Order) → name_order f h name (get_or list (lo + n / 2) 0) ≡ o → by_side o left (Index (lo + n / 2)) right ≡ slot_of f h list name
+      by_order_lem : (o : Ordering) → name_order f h name (get_or list (lo + n / 2) 0) ≡ o → by_side o left (Some (lo + n / 2)) right ≡ slot_of f h list name
       by_order_lem Less o = on-left (λ e p q. ((w e p q).0, before r (lo + n / 2) e o p q))
       by_order_lem Equal o = here r (lo + n / 2) o (omega arith)
       by_order_lem Greater o =

@@ -1,5 +1,6 @@
 -- What the list of externs is, for every file and every choice of the symbols that put their names: sorted, each name once, exactly the names put, with the lowest numbers.
-use Rattle.std.specs.Prelude.{leb, ◌≡◌, Bool, get_or, take, replicate}
+use Rattle.std.specs.Ordering.{Less, Equal}
+use Rattle.std.specs.Prelude.{leb, ◌≡◌, Bool, get_or, take, replicate, Some}
 use Rattle.std.proofs.Common.{leb-true, leb-false, sym, ap, ◌∙◌, arith, length-take-le}
 use Rattle.std.proofs.Math.Path.{refl}
 use Rattle.std.proofs.Math.Bool.{true, false}
@@ -15,14 +16,12 @@ use Rattle.util.specs.Fold.{fold_records, sections_each, sections_made}
 use Rattle.object.specs.declared.Header.{Header}
 use Rattle.object.specs.Section.{relocation_count}
 use Rattle.object.specs.Relocation.{relocation_symbol}
-use Rattle.names.specs.declared.Order.TheVariants.{Less, Equal}
 use Rattle.names.specs.Name.{symbol_text}
 use Rattle.names.specs.OrderLaws.{compare_self, equal_same}
 use Rattle.limits.specs.Limits.{MAX_EXTERNS, EXTERN_ROOM}
 use Rattle.externs.specs.Externs.{order_of, insert_name, extern_step, extern_records, externs_to, externs_by, Holds, names_of, slot_words}
 use Rattle.externs.specs.declared.Names.{Names}
 use Rattle.externs.specs.declared.Names.TheVariants.{TooMany, Count}
-use Rattle.externs.specs.declared.Found.TheVariants.{Index}
 use Rattle.externs.specs.Slot.{slot_of}
 use Rattle.externs.specs.SlotLaws.{Slot, slot_of_entry}
 use Rattle.externs.specs.Inserting.{In, Rising, Has, in_insert, rise, keep, put_in, insert_grows, member, index_of, rising_at, rising_once}
@@ -162,11 +161,11 @@ module _ (f : List ℕ) (h : Header) (puts : ℕ → Bool) where
       (equal_same (symbol_text f h (get_or (externs_by f h puts) r.index 0)) (symbol_text f h (relocation_symbol f h i k)) r.named)
 
   -- each entry's own name has its index for a slot
-  pub externs_own : (e : ℕ) → e < length (externs_by f h puts) → slot_of f h (externs_by f h puts) (symbol_text f h (get_or (externs_by f h puts) e 0)) ≡ Index e
+  pub externs_own : (e : ℕ) → e < length (externs_by f h puts) → slot_of f h (externs_by f h puts) (symbol_text f h (get_or (externs_by f h puts) e 0)) ≡ Some e
   externs_own e p =
       let s = slot_of_entry f h (symbol_text f h (get_or (externs_by f h puts) e 0)) (externs_by f h puts) e p refl in
       let z : e ≡ s.index = externs_once e s.index p s.inside (rw s.named (compare_self (symbol_text f h (get_or (externs_by f h puts) e 0)))) in
-      s.found ∙ ap Index (sym z)
+      s.found ∙ ap Some (sym z)
 
 -- ---- what the answer of `collect` says of the list ys and the buffer
 -- what `collect` answers and leaves says so

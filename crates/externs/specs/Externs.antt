@@ -1,12 +1,11 @@
 -- The extern list: symbol numbers in the order of their names, each name once, with the lowest number that put it there (01, "Layout, slots and fixups").
+use Rattle.std.specs.Ordering.{Ordering, Less, Equal, Greater}
 use Rattle.std.specs.Prelude.{Bool, List, [], ◌∷◌, ◌++◌, ◌≡◌, ℕ, ◌-◌, ◌≤◌, ◌<◌, min, leb, length, take, replicate}
 use Rattle.util.specs.Pick.{pick}
 use Rattle.util.specs.Fold.{fold_records, fold_sections}
 use Rattle.object.specs.declared.Header.{Header}
 use Rattle.object.specs.Section.{relocation_count}
 use Rattle.object.specs.Relocation.{relocation_symbol}
-use Rattle.names.specs.declared.Order.{Order}
-use Rattle.names.specs.declared.Order.TheVariants.{Less, Equal, Greater}
 use Rattle.names.specs.Bytes.{compare_bytes}
 use Rattle.names.specs.Name.{symbol_text}
 use Rattle.limits.specs.Limits.{MAX_EXTERNS, EXTERN_ROOM}
@@ -16,11 +15,11 @@ use Rattle.externs.specs.declared.Names.{Names}
 use Rattle.externs.specs.declared.Names.TheVariants.{TooMany, Count}
 
 -- the order of two symbols' names
-abbrev pub order_of : List ℕ → Header → ℕ → ℕ → Order
+abbrev pub order_of : List ℕ → Header → ℕ → ℕ → Ordering
 order_of f h j x = compare_bytes (symbol_text f h j) (symbol_text f h x)
 
 -- one of three lists, by the order of two names
-abbrev pub by_order : Order → List ℕ → List ℕ → List ℕ → List ℕ
+abbrev pub by_order : Ordering → List ℕ → List ℕ → List ℕ → List ℕ
 by_order Less a b c = a
 by_order Equal a b c = b
 by_order Greater a b c = c

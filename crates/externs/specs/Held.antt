@@ -1,9 +1,7 @@
 -- What the parts of `collect` promise: the list of externs is the first n numbers of a buffer.
-use Rattle.std.specs.Prelude.{◌≡◌, List, ◌∷◌, ◌++◌, ℕ, suc, ◌+◌, ◌≤◌, ◌<◌, min, get_or, take, drop}
+use Rattle.std.specs.Ordering.{Equal}
+use Rattle.std.specs.Prelude.{◌≡◌, List, ◌∷◌, ◌++◌, ℕ, suc, ◌+◌, ◌≤◌, ◌<◌, min, get_or, take, drop, Err, Ok, Result}
 use Rattle.object.specs.declared.Header.{Header}
-use Rattle.names.specs.declared.Order.TheVariants.{Equal}
-use Rattle.externs.specs.declared.Spot.{Spot}
-use Rattle.externs.specs.declared.Spot.TheVariants.{Before, Present}
 use Rattle.externs.specs.Externs.{order_of, insert_name}
 
 -- the first n of l
@@ -19,9 +17,9 @@ unfoldable pub lower_at : ℕ → ℕ → List ℕ → List ℕ
 lower_at p j xs = take p xs ++ min j (get_or xs p 0) ∷ drop (suc p) xs
 
 -- where j goes among the n of xs
-unfoldable pub Placed : List ℕ → Header → ℕ → ℕ → List ℕ → Spot → Type 0
-Placed f h j n xs (Before p) = (p ≤ n) × (insert_name f h j xs ≡ put_at p j xs)
-Placed f h j n xs (Present p) = (p < n) × (insert_name f h j xs ≡ lower_at p j xs) × (order_of f h j (get_or xs p 0) ≡ Equal)
+unfoldable pub Placed : List ℕ → Header → ℕ → ℕ → List ℕ → Result ℕ ℕ → Type 0
+Placed f h j n xs (Err p) = (p ≤ n) × (insert_name f h j xs ≡ put_at p j xs)
+Placed f h j n xs (Ok p) = (p < n) × (insert_name f h j xs ≡ lower_at p j xs) × (order_of f h j (get_or xs p 0) ≡ Equal)
 
 -- after an insertion of j in the first n: the first r are what they should be
 pub record Inserted (f : List ℕ) (h : Header) (j : ℕ) (before : List ℕ) (n : ℕ) (after : List ℕ) (r : ℕ) : Type 0 where

@@ -1,4 +1,5 @@
 -- One insertion: the list stays sorted, keeps its names, and gets that of j. Lemmas of ExternLaws.
+use Rattle.std.specs.Ordering.{Ordering, Less, Equal, Greater}
 use Rattle.std.specs.Prelude.{◌≡◌, ◌⊎◌, length, get_or}
 use Rattle.std.proofs.Math.Path.{refl, sym, ap}
 use Rattle.std.proofs.Common.{◌∙◌, not-suc-le-zero, le_trans, le_of_suc-le-suc}
@@ -9,8 +10,6 @@ use Rattle.std.proofs.Math.Nat.{le_refl}
 use native.Mathlib.Omega.{arith}
 use Rattle.util.specs.Pick.{le_or_lt, three_ways}
 use Rattle.object.specs.declared.Header.{Header}
-use Rattle.names.specs.declared.Order.{Order}
-use Rattle.names.specs.declared.Order.TheVariants.{Less, Equal, Greater}
 use Rattle.names.specs.Bytes.{compare_bytes}
 use Rattle.names.specs.Name.{symbol_text}
 use Rattle.names.specs.OrderLaws.{equal_same, compare_self, turned, compare_turned, less_less, less_not_self}
@@ -52,7 +51,7 @@ module _ (f : List ℕ) (h : Header) (j : ℕ) where
   in_insert y [] p = p
   in_insert y (x ∷ xs) p = by_order_lem (order_of f h j x) (in_insert y xs) p
     where
-      by_order_lem : (o : Order) → (In y (insert_name f h j xs) → (y ≡ j) ⊎ In y xs)
+      by_order_lem : (o : Ordering) → (In y (insert_name f h j xs) → (y ≡ j) ⊎ In y xs)
           → In y (by_order o (j ∷ x ∷ xs) (min j x ∷ xs) (x ∷ insert_name f h j xs)) → (y ≡ j) ⊎ ((y ≡ x) ⊎ In y xs)
       by_order_lem Less rest q = q
       by_order_lem Equal rest q =
@@ -64,7 +63,7 @@ module _ (f : List ℕ) (h : Header) (j : ℕ) where
   rise [] r = (λ y p. absurd p, tt)
   rise (x ∷ xs) r = by_order_lem (order_of f h j x) refl (rise xs r.1)
     where
-      by_order_lem : (o : Order) → order_of f h j x ≡ o → Rising f h (insert_name f h j xs)
+      by_order_lem : (o : Ordering) → order_of f h j x ≡ o → Rising f h (insert_name f h j xs)
           → Rising f h (by_order o (j ∷ x ∷ xs) (min j x ∷ xs) (x ∷ insert_name f h j xs))
       by_order_lem Less e s = (
         λ y p. ⊎_elim (λ q. ap (λ (z : ℕ). order_of f h j z) q ∙ e)
@@ -88,7 +87,7 @@ module _ (f : List ℕ) (h : Header) (j : ℕ) where
   keep_in z [] p = absurd p
   keep_in z (x ∷ xs) p = by_order_lem (order_of f h j x) refl (keep_in z xs)
     where
-      by_order_lem : (o : Order) → order_of f h j x ≡ o → (In z xs → Has f h z (insert_name f h j xs))
+      by_order_lem : (o : Ordering) → order_of f h j x ≡ o → (In z xs → Has f h z (insert_name f h j xs))
           → Has f h z (by_order o (j ∷ x ∷ xs) (min j x ∷ xs) (x ∷ insert_name f h j xs))
       by_order_lem Less e rest = record { entry = z; is = inr p; named = refl; lowest = le_refl z }
       by_order_lem Equal e rest =
@@ -107,7 +106,7 @@ module _ (f : List ℕ) (h : Header) (j : ℕ) where
   put_in [] = record { entry = j; is = inl refl; named = refl; lowest = le_refl j }
   put_in (x ∷ xs) = by_order_lem (order_of f h j x) refl (put_in xs)
     where
-      by_order_lem : (o : Order) → order_of f h j x ≡ o → Has f h j (insert_name f h j xs)
+      by_order_lem : (o : Ordering) → order_of f h j x ≡ o → Has f h j (insert_name f h j xs)
           → Has f h j (by_order o (j ∷ x ∷ xs) (min j x ∷ xs) (x ∷ insert_name f h j xs))
       by_order_lem Less e rest = record { entry = j; is = inl refl; named = refl; lowest = le_refl j }
       by_order_lem Equal e rest =
@@ -143,7 +142,7 @@ unfolding insert_name
 insert_grows f h j [] = omega arith
 insert_grows f h j (x ∷ xs) = by_order_lem (order_of f h j x) (insert_grows f h j xs)
   where
-    by_order_lem : (o : Order) → length xs ≤ length (insert_name f h j xs)
+    by_order_lem : (o : Ordering) → length xs ≤ length (insert_name f h j xs)
         → length (x ∷ xs) ≤ length (by_order o (j ∷ x ∷ xs) (min j x ∷ xs) (x ∷ insert_name f h j xs))
     by_order_lem Less k = omega arith
     by_order_lem Equal k = omega arith

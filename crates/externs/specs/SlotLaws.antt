@@ -1,6 +1,6 @@
 -- What the slot of a name is, for every list of symbol numbers.
 use Rattle.std.proofs.Math.Path.{◌≡◌}
-use Rattle.std.specs.Prelude.{true, false, length, get_or}
+use Rattle.std.specs.Prelude.{true, false, length, get_or, None, Some}
 use mathlib.Core.List.{List, [], ◌∷◌}
 use Rattle.std.proofs.Math.Logic.{⊎_elim}
 use Prim.Native.Nat.{ℕ, zero, suc, ◌+◌, ◌<◌}
@@ -9,21 +9,20 @@ use native.Mathlib.Omega.{arith}
 use Rattle.util.specs.Pick.{pick, yes_no}
 use Rattle.object.specs.declared.Header.{Header}
 use Rattle.names.specs.Name.{symbol_text}
-use Rattle.externs.specs.declared.Found.TheVariants.{Index, Nothing}
 use Rattle.names.specs.OrderLaws.{same_bytes, same_self}
 use Rattle.externs.specs.Slot.{symbol_has_name, slot_from, slot_of}
 
 -- the slot of a name that the list has
 pub record Slot (f : List ℕ) (h : Header) (list name : List ℕ) : Type 0 where
   pub index : ℕ
-  pub found : slot_of f h list name ≡ Index index
+  pub found : slot_of f h list name ≡ Some index
   pub inside : index < length list
   pub named : symbol_text f h (get_or list index 0) ≡ name
 
 -- the slot in xs, which stands at i: a places on
 record SlotIn (f : List ℕ) (h : Header) (name : List ℕ) (i : ℕ) (xs : List ℕ) : Type 0 where
   past : ℕ
-  found : slot_from f h name i xs ≡ Index (i + past)
+  found : slot_from f h name i xs ≡ Some (i + past)
   inside : past < length xs
   named : symbol_has_name f h name (get_or xs past 0) ≡ true
 
@@ -58,27 +57,27 @@ module _ (f : List ℕ) (h : Header) (name : List ℕ) where
   pub slot_of_entry : (list : List ℕ) (e : ℕ) → e < length list → symbol_text f h (get_or list e 0) ≡ name → Slot f h list name
   slot_of_entry list e k n = slot_whole list (slot_search list 0 e k (rw n (same_self name)))
 
-  slot_from_lem : (xs : List ℕ) (i r : ℕ) → slot_from f h name i xs ≡ Index r → SlotIn f h name i xs
+  slot_from_lem : (xs : List ℕ) (i r : ℕ) → slot_from f h name i xs ≡ Some r → SlotIn f h name i xs
   unfolding slot_from pick
   slot_from_lem [] i r q = let z : ◌≡◌ {A = ℕ} 0 1 = cc in absurd (omega arith)
   slot_from_lem (x ∷ xs) i r q =
       ⊎_elim (λ y. slot_first i x xs y) (λ n. slot_later i x xs n (slot_from_lem xs (suc i) r (rw n at q))) (yes_no (symbol_has_name f h name x))
 
   -- a slot is an index of the list, and the name there is the one asked for
-  pub slot_inside : (list : List ℕ) (e : ℕ) → slot_of f h list name ≡ Index e → e < length list
+  pub slot_inside : (list : List ℕ) (e : ℕ) → slot_of f h list name ≡ Some e → e < length list
   slot_inside list e q =
       let s = slot_whole list (slot_from_lem list 0 e q) in
       let z : e ≡ s.index = cc in
       rw z s.inside
 
-  pub slot_named_lem : (list : List ℕ) (e : ℕ) → slot_of f h list name ≡ Index e → symbol_text f h (get_or list e 0) ≡ name
+  pub slot_named_lem : (list : List ℕ) (e : ℕ) → slot_of f h list name ≡ Some e → symbol_text f h (get_or list e 0) ≡ name
   slot_named_lem list e q =
       let s = slot_whole list (slot_from_lem list 0 e q) in
       let z : e ≡ s.index = cc in
       rw z s.named
 
   -- a name that no entry has, and only such a name, has no slot
-  pub slot_nothing : (list : List ℕ) (e : ℕ) → slot_of f h list name ≡ Nothing → e < length list → symbol_text f h (get_or list e 0) ≡ name → ⊥
+  pub slot_nothing : (list : List ℕ) (e : ℕ) → slot_of f h list name ≡ None → e < length list → symbol_text f h (get_or list e 0) ≡ name → ⊥
   slot_nothing list e q k n =
       let s = slot_of_entry list e k n in
       let z : ◌≡◌ {A = ℕ} 0 1 = cc s.found in

@@ -1,5 +1,5 @@
 -- The codes of the symbols (crate `codes`) once the extern names are known: where a slot is looked for, which it is.
-use Rattle.std.specs.Prelude.{◌≡◌, Bool, true, ◌||◌, List, ℕ, ◌+◌, ◌%◌, eqb, leb, length, get_or}
+use Rattle.std.specs.Prelude.{◌≡◌, Bool, true, ◌||◌, List, ℕ, ◌+◌, ◌%◌, eqb, leb, length, get_or, None, Option, Some}
 use Rattle.util.specs.Pick.{pick}
 use Rattle.util.specs.Prefix.{list_to}
 use Rattle.le.specs.Le.{splice}
@@ -7,14 +7,12 @@ use Rattle.limits.specs.Limits.{MAX_EXTERNS}
 use Rattle.object.specs.declared.Header.{Header}
 use Rattle.names.specs.Name.{symbol_text}
 use Rattle.codes.specs.Code.{SLOT, EXTERN, UNDEF_RECORD, UNDEF_EXTERN, NO_SLOT, SPAN, SLOTS}
-use Rattle.externs.specs.declared.Found.{Found}
-use Rattle.externs.specs.declared.Found.TheVariants.{Index, Nothing}
 use Rattle.externs.specs.Slot.{slot_of}
 
 -- the code of a slot
-unfoldable pub found_code : Found → ℕ
-found_code (Index e) = SLOTS + e % SPAN
-found_code Nothing = NO_SLOT
+unfoldable pub found_code : Option ℕ → ℕ
+found_code (Some e) = SLOTS + e % SPAN
+found_code None = NO_SLOT
 
 -- a symbol with this code takes the slot of its name
 abbrev pub takes_slot : ℕ → Bool
@@ -25,7 +23,7 @@ unfoldable pub settled : ℕ → ℕ
 settled c = pick (eqb c UNDEF_EXTERN) UNDEF_RECORD c
 
 -- code c once it is known which slot its name has
-unfoldable pub slotted_code : ℕ → Found → ℕ
+unfoldable pub slotted_code : ℕ → Option ℕ → ℕ
 slotted_code c found = pick (takes_slot c) (found_code found) (settled c)
 
 -- ---- ys are the extern names, `codes` what was kept before them

@@ -17,8 +17,9 @@ ghost use Rattle.externs.specs.Slot.{slot_of};
 ghost use Rattle.externs.specs.Spent.{spent, spend, Kept, LeftFor, Passing};
 ghost use Rattle.externs.specs.Slotted.{found_code, settled, slotted_code, slotted_at, slotted, CodesAfter};
 
-use names::{Order, Span};
+use names::Span;
 use object::Header;
+use std::cmp::Ordering;
 
 // How many keys are passed by a look at the last of them.
 const LEAP: usize = 8;
@@ -30,22 +31,8 @@ pub enum Names {
     Count(usize),
 }
 
-// The slot of a name, if it has one.
-#[derive(Clone, Copy)]
-pub enum Found {
-    Index(usize),
-    Nothing,
-}
-
-// Where a symbol goes in the list: before that index, or its name stands there.
-#[derive(Clone, Copy)]
-enum Spot {
-    Before(usize),
-    Present(usize),
-}
-
 // The order of a name and that of symbol x.
-fn name_order(f: &[u8], h: Header, name: Span, x: u32) -> Order
+fn name_order(f: &[u8], h: Header, name: Span, x: u32) -> Ordering
     ensures { result ≡ name_order f.now h (span_text f.now name) x }
 {
     order::compare(f, name, names::symbol_span(f, h, x))
@@ -89,7 +76,7 @@ fn symbol_key(f: &[u8], h: Header, j: u32) -> u64
 }
 
 // Where j, whose name has that key, goes among the first n, or where its name is. Only names with equal keys are compared.
-fn find(f: &[u8], h: Header, slots: &[u32], keys: &[u64], n: usize, j: u32, key: u64) -> Spot
+fn find(f: &[u8], h: Header, slots: &[u32], keys: &[u64], n: usize, j: u32, key: u64) -> Result<usize, usize>
     requires { (n ≤ length slots.now) × (n ≤ length keys.now) × InStep f.now h slots.now keys.now n × (key ≡ symbol_key f.now h j) × Rising f.now h (held n slots.now) }
     ensures { Placed f.now h j n (held n slots.now) result }
 {
@@ -97,21 +84,21 @@ fn find(f: &[u8], h: Header, slots: &[u32], keys: &[u64], n: usize, j: u32, key:
     let mut p = skip(keys, n, 0, key);
     while p < n {
         if key < keys[p] {
-            return Spot::Before(p);
+            return Err(p);
         }
         match name_order(f, h, name, slots[p]) {
-            Order::Less => {
-                return Spot::Before(p);
+            Ordering::Less => {
+                return Err(p);
             }
-            Order::Equal => {
-                return Spot::Present(p);
+            Ordering::Equal => {
+                return Ok(p);
             }
-            Order::Greater => {
+            Ordering::Greater => {
                 p = skip(keys, n, p + 1, key);
             }
         }
     }
-    Spot::Before(p)
+    Err(p)
 }
 
 // Makes room at p among the first n, and puts j there.
@@ -166,11 +153,11 @@ fn insert(f: &[u8], h: Header, slots: &mut [u32], keys: &mut [u64], n: usize, j:
     let key = symbol_key(f, h, j);
     let spot = find(f, h, slots, keys, n, j, key);
     match spot {
-        Spot::Before(p) => {
+        Err(p) => {
             put_both(slots, keys, n, p, j, key);
             n + 1
         }
-        Spot::Present(p) => {
+        Ok(p) => {
             lower(slots, n, p, j);
             n
         }
@@ -309,21 +296,21 @@ fn clear(slots: &mut [u32], from: usize)
 
 // The order of a name, whose key is `own`, and that of symbol x, whose key is `other`. Only names with equal keys are compared.
 // It does not call name_order, which the compiler puts in line only where `find` alone calls it.
-fn entry_order(f: &[u8], h: Header, name: Span, own: u64, x: u32, other: u64) -> Order
+fn entry_order(f: &[u8], h: Header, name: Span, own: u64, x: u32, other: u64) -> Ordering
     requires { (own ≡ key KEY_BYTES (span_text f.now name)) × (other ≡ symbol_key f.now h x) }
     ensures { result ≡ name_order f.now h (span_text f.now name) x }
 {
     if own < other {
-        return Order::Less;
+        return Ordering::Less;
     }
     if other < own {
-        return Order::Greater;
+        return Ordering::Greater;
     }
     order::compare(f, name, names::symbol_span(f, h, x))
 }
 
 // The slot of symbol j's name: its index in the list of externs, which is sorted. Of the n entries from lo the middle one decides.
-fn slot_of(f: &[u8], h: Header, slots: &[u32], keys: &[u64], j: u32) -> Found
+fn slot_of(f: &[u8], h: Header, slots: &[u32], keys: &[u64], j: u32) -> Option<usize>
     requires { Keyed f.now h slots.now keys.now }
     ensures { result ≡ slot_of f.now h slots.now (symbol_text f.now h j) }
 {
@@ -335,27 +322,27 @@ fn slot_of(f: &[u8], h: Header, slots: &[u32], keys: &[u64], j: u32) -> Found
         let half = n / 2;
         let middle = lo + half;
         match entry_order(f, h, name, key, slots[middle], keys[middle]) {
-            Order::Less => {
+            Ordering::Less => {
                 n = half;
             }
-            Order::Equal => {
-                return Found::Index(middle);
+            Ordering::Equal => {
+                return Some(middle);
             }
-            Order::Greater => {
+            Ordering::Greater => {
                 lo = middle + 1;
                 n = n - half - 1;
             }
         }
     }
-    Found::Nothing
+    None
 }
 
-fn found_code(found: Found) -> u16
+fn found_code(found: Option<usize>) -> u16
     ensures { result ≡ found_code found }
 {
     match found {
-        Found::Index(e) => (e % codes::SPAN as usize + codes::SLOTS as usize) as u16,
-        Found::Nothing => codes::NO_SLOT,
+        Some(e) => (e % codes::SPAN as usize + codes::SLOTS as usize) as u16,
+        None => codes::NO_SLOT,
     }
 }
 

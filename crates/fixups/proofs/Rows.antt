@@ -1,9 +1,10 @@
 -- The pass over all relocations: its loops, and that it counts what `tally_of` counts. Assumes nothing.
+use Rattle.std.specs.Prelude.{Option}
+use Rattle.arch.specs.declared.RVA.{RVA}
 use Rattle.std.proofs.Common.{◌≡◌, ℕ, zero, suc, ◌+◌, ◌*◌, ◌^◌, ◌<◌, ◌≤◌, Bool, true, false, List, get_or, sym, refl, ap, ◌∙◌, add-zero, add-one, arith}
 use Rattle.util.specs.Pick.{pick}
 use Rattle.util.specs.Fold.{fold_records, fold_sections, sections_both, records_same}
 use Rattle.arch.specs.declared.Arch.{Arch}
-use Rattle.arch.specs.declared.Offset.{Offset}
 use Rattle.object.specs.declared.Header.{Header}
 use Rattle.object.specs.declared.Records.{Records}
 use Rattle.object.specs.Relocation.{relocation_in, records_of, record_at, count_read}
@@ -162,7 +163,7 @@ none_within = record { passed = omega arith; skips = omega arith; refused = omeg
 pub ruleset rows_loop = (rows_none, rows_again, rows_end, counted_near, none_within)
 
 -- ---- a section by what is found once for it
-pub read_is : (a : Arch) (f : List ℕ) (target : ℕ → Target) (rs : Records) (home : Offset) (i k : ℕ) (x : Outcome)
+pub read_is : (a : Arch) (f : List ℕ) (target : ℕ → Target) (rs : Records) (home : Option RVA) (i k : ℕ) (x : Outcome)
     → x ≡ by_home a target home (relocation_in f (record_at rs k)) → x ≡ read_outcome a f target rs home i k
 unfolding read_outcome
 read_is a f target rs home i k x e = e

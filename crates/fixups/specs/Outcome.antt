@@ -1,12 +1,10 @@
 -- What becomes of relocation k of section i: passed, skipped for a reason, refused by 10, or a fixup (01, "Layout, slots and fixups").
-use Rattle.std.specs.Prelude.{◌≡◌, ℕ, ◌+◌, List, slice_index, refl}
+use Rattle.std.specs.Prelude.{◌≡◌, ℕ, ◌+◌, List, slice_index, refl, None, Option, Some}
 use Rattle.std.proofs.Common.{ap, ◌∙◌}
 use Rattle.refusal.specs.Refusal.{TARGET}
 use Rattle.util.specs.Pick.{pick}
 use Rattle.arch.specs.declared.Arch.{Arch}
 use Rattle.arch.specs.declared.RVA.{RVA}
-use Rattle.arch.specs.declared.Offset.{Offset}
-use Rattle.arch.specs.declared.Offset.TheVariants.{At, None}
 use Rattle.arch.specs.Address.{rva}
 use Rattle.object.specs.declared.Header.{Header}
 use Rattle.kinds.specs.declared.RelocationKind.{RelocationKind}
@@ -59,22 +57,22 @@ resolved target.Refused t place = Refused
 
 -- a relocation by its section's home, its address field, its type and what its symbol comes to: without a home it is passed; its place is the home's start and
 -- the address field
-unfoldable pub outcome_at : Offset → ℕ → RelocationType → Target → Outcome
-outcome_at (At start) address t g = resolved g t (rva (start.0 + address))
+unfoldable pub outcome_at : Option RVA → ℕ → RelocationType → Target → Outcome
+outcome_at (Some start) address t g = resolved g t (rva (start.0 + address))
 outcome_at None address t g = Passed
 
 -- by its record; `target` says what each number of a symbol comes to
-abbrev pub by_home : Arch → (ℕ → Target) → Offset → Relocation → Outcome
+abbrev pub by_home : Arch → (ℕ → Target) → Option RVA → Relocation → Outcome
 by_home arch target home r = outcome_at home r.address (type_of arch r.typ) (target r.symbol)
 
 -- what is found part by part is what its record comes to
-pub by_record : (arch : Arch) (target : ℕ → Target) (home : Offset) (r s : Relocation) (t : RelocationType) (g : Target) (x : Outcome) → r ≡ s → t ≡ type_of arch r.typ
+pub by_record : (arch : Arch) (target : ℕ → Target) (home : Option RVA) (r s : Relocation) (t : RelocationType) (g : Target) (x : Outcome) → r ≡ s → t ≡ type_of arch r.typ
     → g ≡ target r.symbol → x ≡ outcome_at home r.address t g → x ≡ by_home arch target home s
 by_record arch target home r s t g x e q p z = rw (← e, ← q, ← p) z
 
 -- relocation k of section i; `home` says where a section's home starts. Refusal 10's cases are in two places: the symbol's in `target_of`, the
 -- type that is not carried in `by_kind`
-unfoldable pub outcome : Arch → List ℕ → Header → (ℕ → Offset) → (ℕ → Target) → ℕ → ℕ → Outcome
+unfoldable pub outcome : Arch → List ℕ → Header → (ℕ → Option RVA) → (ℕ → Target) → ℕ → ℕ → Outcome
 outcome arch f h home target i k = by_home arch target (home i) (relocation f h i k)
 
 -- by the words that are kept of the homes: in a section without one every relocation is passed
@@ -83,7 +81,7 @@ unfolding outcome outcome_at word_home pick
 no_home a f h homes target i w e z k = rw (← e, z)
 
 -- the same by what is found once for a section: where its records are, and its home (`read_outcome_lem`)
-unfoldable pub read_outcome : Arch → List ℕ → (ℕ → Target) → Records → Offset → ℕ → ℕ → Outcome
+unfoldable pub read_outcome : Arch → List ℕ → (ℕ → Target) → Records → Option RVA → ℕ → ℕ → Outcome
 read_outcome arch f target records home i k = by_home arch target home (relocation_in f (record_at records k))
 
 pub read_outcome_lem : (arch : Arch) (f : List ℕ) (h : Header) (homes : List ℕ) (target : ℕ → Target) (i : ℕ) (records : Records) (w : ℕ) → records ≡ records_of f h i

@@ -1,12 +1,10 @@
 -- What a fixup tells of its relocation; a home's relocations are not passed, and are refused where their targets are; for every file, all homes and all slots.
-use Rattle.std.specs.Prelude.{◌≡◌, ℕ, suc, ◌+◌, false, ◌⊎◌, List}
+use Rattle.std.specs.Prelude.{◌≡◌, ℕ, suc, ◌+◌, false, ◌⊎◌, List, None, Option, Some}
 use Rattle.std.proofs.Math.Path.{refl}
 use Rattle.std.proofs.Common.{sym, ap, ◌∙◌, inl, inr, ⊎_elim, arith}
 use Rattle.util.specs.Pick.{pick_either}
 use Rattle.arch.specs.declared.Arch.{Arch}
 use Rattle.arch.specs.declared.RVA.{RVA}
-use Rattle.arch.specs.declared.Offset.{Offset}
-use Rattle.arch.specs.declared.Offset.TheVariants.{At, None}
 use Rattle.arch.specs.Address.{rva}
 use Rattle.arch.specs.declared.Arch.TheVariants.{X32, X64}
 use Rattle.object.specs.declared.Header.{Header}
@@ -108,15 +106,15 @@ resolved_fix (Missing k) t place x b e = absurd (let w : ◌≡◌ {A = ℕ} 0 1
 resolved_fix target.Refused t place x b e = absurd (let w : ◌≡◌ {A = ℕ} 0 1 = cc in omega arith)
 
 -- of a fixup: its section has a home, and it is the type's fixup at home start + address field, with what its symbol comes to
-pub record FixFrom (a : Arch) (f : List ℕ) (h : Header) (home : ℕ → Offset) (target : ℕ → Target) (i k : ℕ) (x : Fix) : Type 0 where
+pub record FixFrom (a : Arch) (f : List ℕ) (h : Header) (home : ℕ → Option RVA) (target : ℕ → Target) (i k : ℕ) (x : Fix) : Type 0 where
   pub start : RVA
-  pub homed : home i ≡ At start
+  pub homed : home i ≡ Some start
   pub resolved : Resolved (target (relocation_symbol f h i k)) (type_of a (relocation_type f h i k)) (rva (start.0 + relocation_address f h i k)) x
 
-module _ (a : Arch) (f : List ℕ) (h : Header) (home : ℕ → Offset) (target : ℕ → Target) (i k : ℕ) (x : Fix) where
-  from_home : (o : Offset) → home i ≡ o → by_home a target o (relocation f h i k) ≡ Fixup x → FixFrom a f h home target i k x
+module _ (a : Arch) (f : List ℕ) (h : Header) (home : ℕ → Option RVA) (target : ℕ → Target) (i k : ℕ) (x : Fix) where
+  from_home : (o : Option RVA) → home i ≡ o → by_home a target o (relocation f h i k) ≡ Fixup x → FixFrom a f h home target i k x
   unfolding outcome_at relocation_in
-  from_home (At start) q e =
+  from_home (Some start) q e =
       let r = resolved_fix (target (relocation_symbol f h i k)) (type_of a (relocation_type f h i k)) (rva (start.0 + relocation_address f h i k)) x (has_bits a (relocation_type f h i k)) e in
       record { start = start; homed = q; resolved = r }
   from_home None q e = absurd (let w : ◌≡◌ {A = ℕ} 0 1 = cc in omega arith)
@@ -143,7 +141,7 @@ resolved_not_passed (Slot o) t place = kind_not_passed t.kind (fix_of t place o)
 resolved_not_passed (Missing k) t place = refl
 resolved_not_passed target.Refused t place = refl
 
-pub homed_not_passed : (a : Arch) (f : List ℕ) (h : Header) (home : ℕ → Offset) (target : ℕ → Target) (i k : ℕ) (start : RVA) → home i ≡ At start
+pub homed_not_passed : (a : Arch) (f : List ℕ) (h : Header) (home : ℕ → Option RVA) (target : ℕ → Target) (i k : ℕ) (start : RVA) → home i ≡ Some start
     → is_passed (outcome a f h home target i k) ≡ false
 unfolding outcome outcome_at relocation_in
 homed_not_passed a f h home target i k start e =
@@ -158,7 +156,7 @@ resolved_refused (Slot o) t place n e = absurd (omega arith)
 resolved_refused (Missing k) t place n e = absurd (omega arith)
 resolved_refused target.Refused t place n e = e
 
-pub homed_refused : (a : Arch) (f : List ℕ) (h : Header) (home : ℕ → Offset) (target : ℕ → Target) (i k : ℕ) (start : RVA) (n : ℕ) → home i ≡ At start
+pub homed_refused : (a : Arch) (f : List ℕ) (h : Header) (home : ℕ → Option RVA) (target : ℕ → Target) (i k : ℕ) (start : RVA) (n : ℕ) → home i ≡ Some start
     → target_refusal (target (relocation_symbol f h i k)) ≡ suc n → outcome_refusal (outcome a f h home target i k) ≡ suc n
 unfolding outcome outcome_at relocation_in
 homed_refused a f h home target i k start n e r =

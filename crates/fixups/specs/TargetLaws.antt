@@ -1,5 +1,5 @@
 -- How far a target can lie: not behind UNDEF's page, which holds the slots. For every file, with any homes that do not start behind UNDEF.
-use Rattle.std.specs.Prelude.{◌≡◌, ℕ, zero, suc, ◌+◌, ◌<◌, ◌≤◌, List, nat_le}
+use Rattle.std.specs.Prelude.{◌≡◌, ℕ, zero, suc, ◌+◌, ◌<◌, ◌≤◌, List, nat_le, None, Option, Some}
 use Rattle.std.proofs.Math.Path.{refl}
 use Rattle.std.proofs.Common.{ap, ⊎_elim}
 use native.Mathlib.Omega.{arith}
@@ -7,8 +7,6 @@ use Rattle.util.specs.Pick.{pick_either}
 use Rattle.limits.specs.Limits.{MAX_EXTERNS}
 use Rattle.arch.specs.Page.{PAGE_SIZE}
 use Rattle.arch.specs.declared.RVA.{RVA}
-use Rattle.arch.specs.declared.Offset.{Offset}
-use Rattle.arch.specs.declared.Offset.TheVariants.{At, None}
 use Rattle.object.specs.declared.Header.{Header}
 use Rattle.object.specs.Symbol.{primary}
 use Rattle.names.specs.Bytes.{are_same_bytes, UNDEF}
@@ -17,8 +15,6 @@ use Rattle.layout.specs.Layout.{undef_start}
 use Rattle.ranks.specs.Named.{loaded_named, named_record}
 use Rattle.homes.specs.Home.{record_start, by_number}
 use Rattle.homes.specs.HomeLaws.{start_most}
-use Rattle.externs.specs.declared.Found.{Found}
-use Rattle.externs.specs.declared.Found.TheVariants.{Index, Nothing}
 use Rattle.rules.specs.declared.Rule.{Rule}
 use Rattle.rules.specs.declared.Rule.TheVariants as rules
 use Rattle.codes.specs.Code.{symbol_rule}
@@ -47,30 +43,30 @@ module _ (u : ℕ) where
   near_none : (g : Target) → target_offset g ≡ 0 → Near g
   near_none g e = record { near = omega arith }
 
-  near_home : (x : Offset) → ((o : RVA) → x ≡ At o → o.0 ≤ u) → Near (home_target x)
+  near_home : (x : Option RVA) → ((o : RVA) → x ≡ Some o → o.0 ≤ u) → Near (home_target x)
   unfolding home_target
-  near_home (At o) most = let c = most o refl in record { near = omega arith }
+  near_home (Some o) most = let c = most o refl in record { near = omega arith }
   near_home None most = near_none (Missing NoHome) refl
 
   -- a section's number has the home of a section, or none
-  near_number : (home : ℕ → Offset) → ((i : ℕ) (o : RVA) → home i ≡ At o → o.0 ≤ u) → (n : ℕ) → Near (home_target (by_number home None n))
+  near_number : (home : ℕ → Option RVA) → ((i : ℕ) (o : RVA) → home i ≡ Some o → o.0 ≤ u) → (n : ℕ) → Near (home_target (by_number home None n))
   unfolding by_number home_target
   near_number home most zero = near_none (Missing NoHome) refl
   near_number home most (suc i) = near_home (home i) (most i)
 
-  near_slot : (s : Found) → ((e : ℕ) → s ≡ Index e → e < MAX_EXTERNS) → Near (slot_target u s)
+  near_slot : (s : Option ℕ) → ((e : ℕ) → s ≡ Some e → e < MAX_EXTERNS) → Near (slot_target u s)
   unfolding slot_target
-  near_slot (Index e) few = let l = few e refl in record { near = omega arith }
-  near_slot Nothing few = near_none (Missing NoSlot) refl
+  near_slot (Some e) few = let l = few e refl in record { near = omega arith }
+  near_slot None few = near_none (Missing NoSlot) refl
 
-  near_named : (x : Offset) (other : Target) → ((o : RVA) → x ≡ At o → o.0 ≤ u) → Near other → Near (named_target x other)
+  near_named : (x : Option RVA) (other : Target) → ((o : RVA) → x ≡ Some o → o.0 ≤ u) → Near other → Near (named_target x other)
   unfolding named_target
-  near_named (At o) other most n = let c = most o refl in record { near = omega arith }
+  near_named (Some o) other most n = let c = most o refl in record { near = omega arith }
   near_named None other most n = n
 
 -- ---- a symbol's target, where no slot is past UNDEF's page
-module _ (f : List ℕ) (h : Header) (home : ℕ → Offset) (slot : List ℕ → Found) (most : (i : ℕ) (o : RVA) → home i ≡ At o → o.0 ≤ undef_start f h)
-    (few : (name : List ℕ) (e : ℕ) → slot name ≡ Index e → e < MAX_EXTERNS) (j : ℕ) where
+module _ (f : List ℕ) (h : Header) (home : ℕ → Option RVA) (slot : List ℕ → Option ℕ) (most : (i : ℕ) (o : RVA) → home i ≡ Some o → o.0 ≤ undef_start f h)
+    (few : (name : List ℕ) (e : ℕ) → slot name ≡ Some e → e < MAX_EXTERNS) (j : ℕ) where
   abbrev u : ℕ
   u = undef_start f h
 

@@ -1,4 +1,5 @@
 -- What is kept of homes, put and read back, and listed symbols. Assumes nothing.
+use Rattle.std.specs.Prelude.{None, Option, Some}
 use mathlib.Core.Path.{◌≡◌, refl, sym, ap, ◌∙◌}
 use mathlib.Core.Bool.{Bool, true, false, not, ◌&&◌}
 use mathlib.Core.List.{List, [], ◌∷◌}
@@ -10,8 +11,6 @@ use borrow.Author.Tests.{ne_eqb, lt-ltb, le-ltb}
 use Rattle.util.specs.Pick.{pick}
 use Rattle.util.specs.Prefix.{count_none, count_yes, count_no, count_end}
 use Rattle.arch.specs.declared.RVA.{RVA}
-use Rattle.arch.specs.declared.Offset.{Offset}
-use Rattle.arch.specs.declared.Offset.TheVariants.{At, None}
 use Rattle.arch.specs.Address.{rva}
 use Rattle.arch.specs.Page.{PAGE_SIZE}
 use Rattle.le.specs.Le.{splice, splice_long, fill_none, fill_again, fill_end}
@@ -57,8 +56,8 @@ pub ruleset homes_loop = (fill_none, fill_loaded, fill_unloaded, fill_end, fill_
 pub start_in : (l : List ℕ) (i w : ℕ) (r : RVA) → w ≡ get_or l i 0 → r ≡ rva (word_start w) → r ≡ rva (start_of (home_in l i))
 start_in l i w r is e = rw (← is, ← word_start_lem w) e
 
-module _ (x : Offset) where
-  pub low_at : (o : RVA) → o.0 < 2 ^ 32 → Low (At o)
+module _ (x : Option RVA) where
+  pub low_at : (o : RVA) → o.0 < 2 ^ 32 → Low (Some o)
   unfolding Low
   low_at o k = k
 
@@ -71,7 +70,7 @@ module _ (l : List ℕ) (i w : ℕ) (is : w ≡ get_or l i 0) where
   unfolding word_home pick
   in_none z = rw (← is, z)
 
-  pub in_at : (o : RVA) → (w ≡ 0 → ⊥) → o ≡ rva (word_start w) → At o ≡ home_in l i
+  pub in_at : (o : RVA) → (w ≡ 0 → ⊥) → o ≡ rva (word_start w) → Some o ≡ home_in l i
   unfolding word_home pick
   in_at o n e = rw (← is, ne_eqb w 0 n, e)
 
@@ -138,7 +137,7 @@ module _ (l : List ℕ) (n : ℕ) where
   unfolding by_number pick
   some_negative k = rw (le-ltb n 0x8000 k)
 
-module _ (home : ℕ → Offset) (left : ℕ) (s : Symbol) where
+module _ (home : ℕ → Option RVA) (left : ℕ) (s : Symbol) where
   pub listed_own : (r : Bool) → eqb left 0 ≡ true → r ≡ is_some (by_number home None (pick (ltb s.number 0x8000) s.number 0)) → r ≡ (eqb left 0 && is_some (place_home home (place_of s)))
   listed_own r z e = rw (z, of_section home None (place_of s), section_by s.number s.class s.value) e
 
@@ -147,11 +146,11 @@ module _ (home : ℕ → Offset) (left : ℕ) (s : Symbol) where
 
 pub ruleset listed_ways = (some_zero, some_in, some_negative, listed_own, listed_other)
 
-pub offset_is : (home : ℕ → Offset) (x : Offset) (p : Place) {r : RVA} (v : ℕ) → x ≡ place_home home p → r ≡ rva (offset_from x v) → r ≡ rva (offset_from (place_home home p) v)
+pub offset_is : (home : ℕ → Option RVA) (x : Option RVA) (p : Place) {r : RVA} (v : ℕ) → x ≡ place_home home p → r ≡ rva (offset_from x v) → r ≡ rva (offset_from (place_home home p) v)
 offset_is home x p v at_home e = rw (← at_home) e
 
-module _ (x : Offset) (v : ℕ) where
-  pub from_at : (o : RVA) → x ≡ At o → rva (o.0 + v) ≡ rva (offset_from x v)
+module _ (x : Option RVA) (v : ℕ) where
+  pub from_at : (o : RVA) → x ≡ Some o → rva (o.0 + v) ≡ rva (offset_from x v)
   unfolding offset_from
   from_at o e = rw e
 
@@ -159,14 +158,14 @@ module _ (x : Offset) (v : ℕ) where
   unfolding offset_from
   from_none e = rw e
 
-  low_is : (o : RVA) → Low x → x ≡ At o → o.0 < 2 ^ 32
+  low_is : (o : RVA) → Low x → x ≡ Some o → o.0 < 2 ^ 32
   unfolding Low
   low_is o k e = rw e at k
 
-  pub low_fits : (o : RVA) → Low x → x ≡ At o → v < 2 ^ 32 → o.0 + v < 2 ^ 64
+  pub low_fits : (o : RVA) → Low x → x ≡ Some o → v < 2 ^ 32 → o.0 + v < 2 ^ 64
   low_fits o k e q = let z = low_is o k e in omega arith
 
-  pub low_sum : (o : RVA) → Low x → x ≡ At o → v < 2 ^ 32 → o.0 + v < 2 ^ 33
+  pub low_sum : (o : RVA) → Low x → x ≡ Some o → v < 2 ^ 32 → o.0 + v < 2 ^ 33
   low_sum o k e q = let z = low_is o k e in omega arith
 
 pub ruleset listings = (from_at, from_none)

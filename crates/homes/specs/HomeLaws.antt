@@ -1,5 +1,5 @@
 -- What a home is, for every file and every header (02, N3), and that the words which are kept of homes say so.
-use Rattle.std.specs.Prelude.{◌≡◌, Bool, List, ℕ, ◌+◌, ◌≤◌, ◌<◌, ltb}
+use Rattle.std.specs.Prelude.{◌≡◌, Bool, List, ℕ, ◌+◌, ◌≤◌, ◌<◌, ltb, None, Option, Some}
 use Rattle.std.proofs.Math.Path.{refl, sym, fun_ext}
 use Rattle.std.proofs.Math.Bool.{true, false, and-false}
 use Rattle.std.proofs.Math.Logic.{⊎_elim}
@@ -9,8 +9,6 @@ use Rattle.util.specs.Pick.{pick, yes_no, and_left, and_right, le_or_lt, three_w
 use Rattle.util.specs.Prefix.{list_at, list_past, count_below}
 use Rattle.limits.specs.Limits.{MAX_PAGES}
 use Rattle.arch.specs.declared.RVA.{RVA}
-use Rattle.arch.specs.declared.Offset.{Offset}
-use Rattle.arch.specs.declared.Offset.TheVariants.{At, None}
 use Rattle.arch.specs.Address.{rva, at_same, none_not_at}
 use Rattle.object.specs.declared.Header.{Header}
 use Rattle.object.specs.Section.{loaded, range_length}
@@ -35,7 +33,7 @@ pub record TwoHomes (f : List ℕ) (h : Header) (i j : ℕ) : Type 0 where
 module _ (f : List ℕ) (h : Header) where
   module _ (i : ℕ) (inside : i < h.sections) (loads : loaded f h i ≡ true) where
     -- a loaded section's home starts where its own range does
-    pub loaded_home : section_home f h i ≡ At (rva (start_at f h i))
+    pub loaded_home : section_home f h i ≡ Some (rva (start_at f h i))
     unfolding section_home pick
     loaded_home = rw (lt-ltb i h.sections inside, loads)
 
@@ -58,7 +56,7 @@ module _ (f : List ℕ) (h : Header) where
   unfolding section_home pick
   past_none i q = rw (le-ltb i h.sections q)
 
-  own_case : (i : ℕ) (o : RVA) (b : Bool) → has_home f h i ≡ b → pick b (At (rva (start_at f h i))) None ≡ At o → OwnHome f h i o
+  own_case : (i : ℕ) (o : RVA) (b : Bool) → has_home f h i ≡ b → pick b (Some (rva (start_at f h i))) None ≡ Some o → OwnHome f h i o
   unfolding pick
   own_case i o true t e =
       record {
@@ -69,12 +67,12 @@ module _ (f : List ℕ) (h : Header) where
   own_case i o false t e = absurd (none_not_at o e)
 
   -- a section that has a home is loaded, and starts where its home does
-  pub home_own : (i : ℕ) (o : RVA) → section_home f h i ≡ At o → OwnHome f h i o
+  pub home_own : (i : ℕ) (o : RVA) → section_home f h i ≡ Some o → OwnHome f h i o
   unfolding section_home
   home_own i o e = own_case i o (has_home f h i) refl e
 
   -- UNDEF is nobody's home: its record stands behind those of all homes
-  pub home_not_undef : (i : ℕ) (o : RVA) → section_home f h i ≡ At o → home_record f h i < record_of f h h.sections
+  pub home_not_undef : (i : ℕ) (o : RVA) → section_home f h i ≡ Some o → home_record f h i < record_of f h h.sections
   home_not_undef i o e =
       let w = home_own i o e in
       rw (loaded_record i w.inside w.loads) (count_below (loaded f h) h.sections i w.inside w.loads)
@@ -94,7 +92,7 @@ module _ (f : List ℕ) (h : Header) where
 -- ---- where records start
 module _ (f : List ℕ) (h : Header) where
   module _ (p : ℕ → Bool) (u : Bool) where
-    start_case : (x : TableRecord) (o : RVA) → first_in p u 0 h.sections ≡ x → record_start f h x ≡ At o → o.0 ≤ undef_start f h
+    start_case : (x : TableRecord) (o : RVA) → first_in p u 0 h.sections ≡ x → record_start f h x ≡ Some o → o.0 ≤ undef_start f h
     unfolding record_start
     start_case (Loaded k) o e q =
         let r = found_at p u h.sections k e in
@@ -105,11 +103,11 @@ module _ (f : List ℕ) (h : Header) where
     start_case Nowhere o e q = absurd (none_not_at o q)
 
     -- no record that is searched for starts behind UNDEF
-    pub start_most : (o : RVA) → record_start f h (first_in p u 0 h.sections) ≡ At o → o.0 ≤ undef_start f h
+    pub start_most : (o : RVA) → record_start f h (first_in p u 0 h.sections) ≡ Some o → o.0 ≤ undef_start f h
     start_most o q = start_case (first_in p u 0 h.sections) o refl q
 
   -- nor does a section's home
-  pub section_most : (i : ℕ) (o : RVA) → section_home f h i ≡ At o → o.0 ≤ undef_start f h
+  pub section_most : (i : ℕ) (o : RVA) → section_home f h i ≡ Some o → o.0 ≤ undef_start f h
   section_most i o e =
       let w = home_own f h i o e in
       let k = w.inside in

@@ -1,10 +1,9 @@
 // What is kept of homes, read back.
 ghost use Rattle.std.specs.Prelude.{◌≡◌, ◌<◌, ◌^◌};
 ghost use Rattle.arch.specs.Address.{rva};
-ghost use Rattle.arch.specs.declared.Offset.TheVariants.{None};
 ghost use Rattle.homes.specs.Home.{by_number, start_of, word_start, home_in, Low};
 
-use arch::{Offset, PAGE_SIZE, RVA};
+use arch::{PAGE_SIZE, RVA};
 
 // How many numbers half a word has: a home is kept as its page in the low half, and one more than its record in the high half.
 pub const HALF: u32 = 0x10000;
@@ -26,25 +25,25 @@ pub fn start_in(homes: &[u32], i: u32) -> RVA
 }
 
 // The same, told apart from none.
-pub fn home_in(homes: &[u32], i: u32) -> Offset
+pub fn home_in(homes: &[u32], i: u32) -> Option<RVA>
     ensures value { result ≡ home_in homes.now i }
     ensures low { Low result }
 {
     let word = le::word_at(homes, i as usize);
     if word == 0 {
-        Offset::None
+        None
     } else {
-        Offset::At(word_start(word))
+        Some(word_start(word))
     }
 }
 
 // The same for a section's number, from 1.
-pub fn home_of_number(homes: &[u32], n: u32) -> Offset
+pub fn home_of_number(homes: &[u32], n: u32) -> Option<RVA>
     ensures value { result ≡ by_number (home_in homes.now) None n }
     ensures low { Low result }
 {
     if n == 0 {
-        Offset::None
+        None
     } else {
         home_in(homes, n - 1)
     }

@@ -2,28 +2,27 @@
 ghost use Rattle.std.specs.Prelude.{◌≡◌, ◌&&◌, ◌<◌, ◌^◌, eqb, ltb};
 ghost use Rattle.util.specs.Pick.{pick};
 ghost use Rattle.arch.specs.Address.{rva};
-ghost use Rattle.arch.specs.declared.Offset.TheVariants.{None};
 ghost use Rattle.object.specs.Symbol.{place_of};
 ghost use Rattle.homes.specs.Home.{by_number, word_record, home_in, record_in, Low};
 ghost use Rattle.homes.specs.Listed.{of_place, place_home, is_some, offset_from, listed_total};
 
 use crate::kept::{HALF, home_of_number};
-use arch::{Offset, RVA};
+use arch::RVA;
 use kinds::Place;
 use object::{Header, Symbol};
 
 // Where the home of a place starts.
-fn place_home(homes: &[u32], p: Place) -> Offset
+fn place_home(homes: &[u32], p: Place) -> Option<RVA>
     ensures value { result ≡ place_home (home_in homes.now) p }
     ensures low { Low result }
 {
     match p {
         Place::In(n) => home_of_number(homes, n),
-        Place::Undefined => Offset::None,
-        Place::Common => Offset::None,
-        Place::Absolute => Offset::None,
-        Place::Nowhere => Offset::None,
-        Place::Other => Offset::None,
+        Place::Undefined => None,
+        Place::Common => None,
+        Place::Absolute => None,
+        Place::Nowhere => None,
+        Place::Other => None,
     }
 }
 
@@ -86,14 +85,14 @@ pub fn is_listed(homes: &[u32], left: u8, s: Symbol) -> bool
     }
 }
 
-fn offset_from(home: Offset, value: u32) -> RVA
+fn offset_from(home: Option<RVA>, value: u32) -> RVA
     requires { Low home }
     ensures value { result ≡ rva (offset_from home value) }
     ensures result_bound { result.0 < 2 ^ 33 }
 {
     match home {
-        Offset::At(o) => RVA(o.0 + value as u64),
-        Offset::None => RVA(value as u64),
+        Some(o) => RVA(o.0 + value as u64),
+        None => RVA(value as u64),
     }
 }
 

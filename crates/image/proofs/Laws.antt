@@ -1,10 +1,9 @@
 -- The ways through the code. Assumes nothing.
+use Rattle.std.specs.Prelude.{None, Option, Some}
 use Rattle.std.proofs.Common.{◌≡◌, ℕ, ◌+◌, ◌-◌, ◌*◌, ◌%◌, ◌^◌, ◌<◌, ◌≤◌, Bool, true, false, List, length, sym, refl, ap, ◌∙◌, ⊎_elim, add-one, arith}
 use Rattle.util.specs.Pick.{pick, yes_no}
 use Rattle.limits.specs.Limits.{SLOT_SIZE}
 use Rattle.arch.specs.declared.RVA.{RVA}
-use Rattle.arch.specs.declared.Offset.{Offset}
-use Rattle.arch.specs.declared.Offset.TheVariants.{At, None}
 use Rattle.arch.specs.Address.{rva, offset_plus, plus_tells, plus_past}
 use Rattle.le.specs.Le.{le, part, splice, le_low, splice_past}
 use Rattle.object.specs.declared.Header.{Header}
@@ -15,7 +14,7 @@ use Rattle.image.specs.Laid.{zeroed, section_bytes, section_step, sections_laid,
 use Rattle.image.specs.LaidLaws.{length_sections, length_slots}
 
 -- ---- sections
-module _ (f : List ℕ) (h : Header) (home : ℕ → Offset) (image : List ℕ) where
+module _ (f : List ℕ) (h : Header) (home : ℕ → Option RVA) (image : List ℕ) where
   pub section_laid : (i : ℕ) (at : RVA) (l : Bool) (s b : List ℕ) → l ≡ loaded f h i → l ≡ true → at ≡ rva (start_of (home i)) → s ≡ section_bytes f h i → b ≡ splice image at.0 s → b ≡ section_step f h home image i
   unfolding section_step pick
   section_laid i at l s b q t e d w = rw (← q, t, ← d) (rw e at w)
@@ -52,7 +51,7 @@ pub ruleset sections_loop = (sections_none, sections_again, sections_end, sectio
 
 -- ---- slots
 module _ (base undef : ℕ) (image : List ℕ) where
-  pub slot_laid : (e v : ℕ) (x : Offset) (o : RVA) (b : List ℕ) → x ≡ offset_plus undef (SLOT_SIZE * e) → x ≡ At o → v ≡ (base + o.0) % 2 ^ 64 → b ≡ splice image o.0 (le SLOT_SIZE v) → b ≡ slot_step base undef image e
+  pub slot_laid : (e v : ℕ) (x : Option RVA) (o : RVA) (b : List ℕ) → x ≡ offset_plus undef (SLOT_SIZE * e) → x ≡ Some o → v ≡ (base + o.0) % 2 ^ 64 → b ≡ splice image o.0 (le SLOT_SIZE v) → b ≡ slot_step base undef image e
   unfolding slot_step
   slot_laid e v x o b q t w d =
       let p : undef + SLOT_SIZE * e ≡ o.0 = plus_tells undef (SLOT_SIZE * e) o (sym q ∙ t) in
@@ -61,7 +60,7 @@ module _ (base undef : ℕ) (image : List ℕ) where
       let y : le SLOT_SIZE v ≡ le SLOT_SIZE (base + o.0) = sym (le_low SLOT_SIZE v) ∙ ap (le SLOT_SIZE) low ∙ le_low SLOT_SIZE (base + o.0) in
       rw (z, p, ← y) d
 
-  pub slot_past : (e : ℕ) (x : Offset) → x ≡ offset_plus undef (SLOT_SIZE * e) → x ≡ None → length image < 2 ^ 64 → image ≡ slot_step base undef image e
+  pub slot_past : (e : ℕ) (x : Option RVA) → x ≡ offset_plus undef (SLOT_SIZE * e) → x ≡ None → length image < 2 ^ 64 → image ≡ slot_step base undef image e
   unfolding slot_step
   slot_past e x q t k =
       let p : 2 ^ 64 ≤ undef + SLOT_SIZE * e = plus_past undef (SLOT_SIZE * e) (sym q ∙ t) in
@@ -84,7 +83,7 @@ module _ (base undef : ℕ) (image : List ℕ) where
 pub ruleset slots_loop = (slots_none, slots_again, slots_end, slots_same)
 
 -- ---- the three writes, one behind another
-pub laid_is : (f : List ℕ) (h : Header) (home : ℕ → Offset) (image a b c : List ℕ) (pages base undef n : ℕ) → a ≡ zeroed pages image → b ≡ sections_laid f h home a h.sections → c ≡ slots_laid base undef b n → c ≡ laid f h home pages base undef n image
+pub laid_is : (f : List ℕ) (h : Header) (home : ℕ → Option RVA) (image a b c : List ℕ) (pages base undef n : ℕ) → a ≡ zeroed pages image → b ≡ sections_laid f h home a h.sections → c ≡ slots_laid base undef b n → c ≡ laid f h home pages base undef n image
 laid_is f h home image a b c pages base undef n p q r = rw (← p, ← q) r
 
 -- ---- bytes that are known by equations

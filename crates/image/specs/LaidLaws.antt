@@ -1,6 +1,7 @@
 -- What stands at every place of the laid image (01, "Layout, slots and fixups"): a slot's own address, a loaded section's bytes of the file, and zero
 -- elsewhere on the mapped pages; behind them the image is as it was.
-use Rattle.std.specs.Prelude.{◌≡◌, ℕ, zero, suc, ◌+◌, ◌-◌, ◌*◌, ◌<◌, ◌≤◌, true, List, length, replicate, slice_index, slice_index_or}
+use Rattle.arch.specs.declared.RVA.{RVA}
+use Rattle.std.specs.Prelude.{◌≡◌, ℕ, zero, suc, ◌+◌, ◌-◌, ◌*◌, ◌<◌, ◌≤◌, true, List, length, replicate, slice_index, slice_index_or, Option}
 use Rattle.std.proofs.Math.Path.{refl, ap}
 use Rattle.std.proofs.Common.{sym, ◌∙◌, le_trans, le_of_suc-le-suc, eq-or-lt_of_le, arith}
 use Rattle.std.proofs.Math.Logic.{⊎_elim}
@@ -15,7 +16,6 @@ use Rattle.object.specs.Section.{loaded, file_start, file_end, range_length}
 use Rattle.object.specs.SectionLaws.{file_range}
 use Rattle.layout.specs.Layout.{start_at, undef_start, mapped_pages}
 use Rattle.layout.proofs.LayoutLaws.{ranges_apart, ranges_share_none, undef_behind, pages_mapped}
-use Rattle.arch.specs.declared.Offset.{Offset}
 use Rattle.homes.specs.Home.{section_home, start_of}
 use Rattle.homes.specs.HomeLaws.{loaded_start}
 use Rattle.image.specs.Laid.{zeroed, section_bytes, section_step, sections_laid, slot_step, slots_laid, laid, laid_image}
@@ -49,12 +49,12 @@ module _ (base undef : ℕ) (image : List ℕ) where
       (eq-or-lt_of_le (le_of_suc-le-suc h))
 
 -- ---- sections, wherever they start
-pub length_step : (f : List ℕ) (h : Header) (home : ℕ → Offset) (image : List ℕ) (i : ℕ) → length (section_step f h home image i) ≡ length image
+pub length_step : (f : List ℕ) (h : Header) (home : ℕ → Option RVA) (image : List ℕ) (i : ℕ) → length (section_step f h home image i) ≡ length image
 unfolding section_step pick
 length_step f h home image i =
     ⊎_elim (λ t. rw t (length_splice image (start_of (home i)) (section_bytes f h i))) (λ t. rw t) (yes_no (loaded f h i))
 
-module _ (f : List ℕ) (h : Header) (home : ℕ → Offset) (image : List ℕ) where
+module _ (f : List ℕ) (h : Header) (home : ℕ → Option RVA) (image : List ℕ) where
   pub length_sections : (n : ℕ) → length (sections_laid f h home image n) ≡ length image
   unfolding sections_laid
   length_sections zero = refl
@@ -97,7 +97,7 @@ module _ (f : List ℕ) (h : Header) (home : ℕ → Offset) (image : List ℕ) 
       (eq-or-lt_of_le (le_of_suc-le-suc q))
 
 -- ---- no byte more or less
-pub length_laid : (f : List ℕ) (h : Header) (home : ℕ → Offset) (pages base undef n : ℕ) (image : List ℕ)
+pub length_laid : (f : List ℕ) (h : Header) (home : ℕ → Option RVA) (pages base undef n : ℕ) (image : List ℕ)
     → length (laid f h home pages base undef n image) ≡ length image
 length_laid f h home pages base undef n image =
     length_slots base undef (sections_laid f h home (zeroed pages image) h.sections) n

@@ -6,7 +6,7 @@ ghost use Rattle.marks.specs.Marks.{marks_put};
 ghost use Rattle.homes.specs.Home.{home_in};
 ghost use Rattle.image.specs.Laid.{section_bytes, section_step, sections_laid, slot_step, slots_laid, laid};
 
-use arch::{Offset, PAGE_SIZE, RVA, VA};
+use arch::{PAGE_SIZE, RVA, VA};
 use object::Header;
 
 // The bytes of section i's file range.
@@ -44,11 +44,11 @@ fn lay_slot(base: VA, undef: RVA, e: u32, image: &mut [u8])
     ensures { image.new ≡ slot_step base.0 undef.0 image.old e }
 {
     match undef.plus(RVA(limits::SLOT_SIZE * (e as u64))) {
-        Offset::At(at) => {
+        Some(at) => {
             let address = std::num::wrapping_add_u64(base.0, at.0);
             le::put(image, at.0 as usize, limits::SLOT_SIZE as usize, address);
         }
-        Offset::None => {}
+        None => {}
     }
 }
 

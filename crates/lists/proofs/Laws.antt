@@ -1,10 +1,11 @@
 -- The pass over all relocations. Assumes nothing.
+use Rattle.std.specs.Prelude.{Option}
+use Rattle.arch.specs.declared.RVA.{RVA}
 use Rattle.std.proofs.Common.{◌≡◌, ℕ, zero, suc, ◌+◌, ◌*◌, ◌%◌, ◌^◌, ◌<◌, ◌≤◌, List, [], ◌∷◌, ◌++◌, length, get_or, refl, ap, ◌∙◌, add-one, arith, length-append}
 use Rattle.util.specs.Fold.{fold_records, fold_sections, records_same}
 use Rattle.limits.specs.Records.{FIXUP_BYTES, SKIP_BYTES}
 use Rattle.le.specs.Le.{splice, splice_next, splice_long}
 use Rattle.arch.specs.declared.Arch.{Arch}
-use Rattle.arch.specs.declared.Offset.{Offset}
 use Rattle.object.specs.declared.Header.{Header}
 use Rattle.object.specs.declared.Records.{Records}
 use Rattle.object.specs.Relocation.{relocation_in, records_of, record_at, count_read}
@@ -139,7 +140,7 @@ module _ (base : ℕ) (o x : ℕ → ℕ → Outcome) (i : ℕ) (e : (k : ℕ) �
   unfolding append_step skip_bytes_at
   skips_same = records_same (append_step (skip_bytes_at o)) (append_step (skip_bytes_at x)) i (λ k b. ap (λ (y : Outcome). b ++ skip_bytes i k y) (e k)) [] n
 
-pub read_again : (a : Arch) (f : List ℕ) (target : ℕ → Target) (rs : Records) (home : Offset) (base i : ℕ) (p : Rows) (b c : List ℕ) (k : ℕ) (q r : Rows) (x : Outcome)
+pub read_again : (a : Arch) (f : List ℕ) (target : ℕ → Target) (rs : Records) (home : Option RVA) (base i : ℕ) (p : Rows) (b c : List ℕ) (k : ℕ) (q r : Rows) (x : Outcome)
     (b' b'' c' c'' : List ℕ)
     → Step p (over_records (fix_bytes_at base (read_outcome a f target rs home)) i k) (over_records (skip_bytes_at (read_outcome a f target rs home)) i k) b b' c c' q k
     → x ≡ by_home a target home (relocation_in f (record_at rs k)) → Step q (fix_bytes base x) (skip_bytes i k x) b' b'' c' c'' r 1

@@ -1,4 +1,6 @@
 -- The loops over bytes, and the ways through the name readers. Assumes nothing.
+use Rattle.std.specs.Ordering.{Ordering, Less, Equal, Greater}
+use Rattle.std.specs.Prelude.{None, Option, Some}
 use mathlib.Core.Path.{◌≡◌, refl, sym, ap, ◌∙◌}
 use mathlib.Core.Bool.{Bool, true, false, and-false}
 use mathlib.Core.List.{List, [], ◌∷◌}
@@ -16,14 +18,10 @@ use Rattle.le.specs.Le.{get, part, part_most}
 use Rattle.chars.specs.Chars.{good_symbol_name, good_section_name}
 use Rattle.object.specs.declared.Header.{Header}
 use Rattle.object.specs.Format.{NAME_SIZE, LONG_OFFSET_AT, section_header_at, symbol_record_at, string_table, string_length}
-use Rattle.names.specs.declared.Order.{Order}
-use Rattle.names.specs.declared.Order.TheVariants.{Less, Equal, Greater}
 use Rattle.names.specs.declared.Span.{Span}
 use Rattle.names.specs.declared.Name.{Name}
 use Rattle.names.specs.declared.Name.TheVariants.{Good, Bad}
 use Rattle.names.specs.Bytes.{run, all_digits, decimal, decimal_to, compare_bytes, are_same_bytes, UNDEF}
-use Rattle.names.specs.declared.Digits.{Digits}
-use Rattle.names.specs.declared.Digits.TheVariants as digits
 use Rattle.names.specs.Name.{long_run, symbol_run, SLASH, slash_offset, slash_by, slash_run, section_run, checked, name_bytes, left_from, long_span, span_at, symbol_span, no_span, slash_span, section_span_at, section_span, span_text, is_good}
 use Rattle.names.specs.NameLaws.{undef_front}
 use Rattle.names.proofs.SlashLaws.{slash_is}
@@ -94,7 +92,7 @@ small_fits sum k s h =
 pub ruleset decimal_loop = (small_none, small_again, decimal_none, decimal_again, decimal_end)
 
 -- ---- the order: what is left of both decides
-module _ (a b : List ℕ) (i : ℕ) (x : Order) where
+module _ (a b : List ℕ) (i : ℕ) (x : Ordering) where
   pub order_over : i < length a → length b ≤ i → compare_bytes (drop i a) (drop i b) ≡ x → Greater ≡ x
   unfolding compare_bytes
   order_over h k q = simp (drop-cons a i 0 h, drop_of_length-le b k) at q
@@ -191,27 +189,27 @@ module _ (f : List ℕ) (h : Header) where
     symbol_short r b n e z q p s = rw (← e, z, ← q, p, s)
 
     module _ (n : ℕ) (ran : n ≡ run f at NAME_SIZE) where
-      pub slash_alone : n < 2 → digits.Bad ≡ slash_offset f at
+      pub slash_alone : n < 2 → None ≡ slash_offset f at
       unfolding slash_offset pick
       slash_alone k = rw (← ran, lt-leb 2 n k)
 
-      pub slash_digits_lem : (s : List ℕ) (d : Bool) (o : ℕ) → 2 ≤ n → s ≡ part f (at + 1) (n - 1) → d ≡ all_digits s → d ≡ true → o ≡ decimal s → digits.Offset o ≡ slash_offset f at
+      pub slash_digits_lem : (s : List ℕ) (d : Bool) (o : ℕ) → 2 ≤ n → s ≡ part f (at + 1) (n - 1) → d ≡ all_digits s → d ≡ true → o ≡ decimal s → Some o ≡ slash_offset f at
       unfolding slash_offset pick
       slash_digits_lem s d o k e q t p = rw (← ran, ← e, ← q, ← p, le-leb 2 n k, t)
 
-      pub slash_other : (s : List ℕ) (d : Bool) → 2 ≤ n → s ≡ part f (at + 1) (n - 1) → d ≡ all_digits s → d ≡ false → digits.Bad ≡ slash_offset f at
+      pub slash_other : (s : List ℕ) (d : Bool) → 2 ≤ n → s ≡ part f (at + 1) (n - 1) → d ≡ all_digits s → d ≡ false → None ≡ slash_offset f at
       unfolding slash_offset pick
       slash_other s d k e q t = rw (← ran, ← e, ← q, le-leb 2 n k, t)
 
-    module _ (d : Digits) (is : d ≡ slash_offset f at) where
+    module _ (d : Option ℕ) (is : d ≡ slash_offset f at) where
       pub slash_at : (k : ℕ) → at ≡ k → d ≡ slash_offset f k
       slash_at k e = rw (← e) is
 
-      pub slash_long : (x : Name) (o : ℕ) → d ≡ digits.Offset o → x ≡ long_run f h o → x ≡ slash_run f h at
+      pub slash_long : (x : Name) (o : ℕ) → d ≡ Some o → x ≡ long_run f h o → x ≡ slash_run f h at
       unfolding slash_by
       slash_long x o e r = rw (slash_is f h at, ← is, e) r
 
-      pub slash_bad : d ≡ digits.Bad → Bad ≡ slash_run f h at
+      pub slash_bad : d ≡ None → Bad ≡ slash_run f h at
       unfolding slash_by
       slash_bad e = rw (slash_is f h at, ← is, e)
 
@@ -305,21 +303,21 @@ module _ (f : List ℕ) (h : Header) where
     unfolding span_at pick
     span_short z = rw (← is, ← read, z)
 
-  module _ (d : Digits) where
-    pub slash_inside : (o l : ℕ) (r : Span) → d ≡ digits.Offset o → l ≡ string_length f h → o < l → r ≡ long_span f h o → r ≡ slash_span f h d
+  module _ (d : Option ℕ) where
+    pub slash_inside : (o l : ℕ) (r : Span) → d ≡ Some o → l ≡ string_length f h → o < l → r ≡ long_span f h o → r ≡ slash_span f h d
     unfolding slash_span pick
     slash_inside o l r e q k p = rw (e, lt-ltb o (string_length f h) (rw q at k)) p
 
-    pub slash_outside : (o l : ℕ) (r : Span) → d ≡ digits.Offset o → l ≡ string_length f h → l ≤ o → r ≡ no_span → r ≡ slash_span f h d
+    pub slash_outside : (o l : ℕ) (r : Span) → d ≡ Some o → l ≡ string_length f h → l ≤ o → r ≡ no_span → r ≡ slash_span f h d
     unfolding slash_span pick
     slash_outside o l r e q k p = rw (e, le-ltb o (string_length f h) (rw q at k)) p
 
-    pub slash_none : (r : Span) → d ≡ digits.Bad → r ≡ no_span → r ≡ slash_span f h d
+    pub slash_none : (r : Span) → d ≡ None → r ≡ no_span → r ≡ slash_span f h d
     unfolding slash_span
     slash_none r e p = rw e p
 
   module _ (at i : ℕ) (is : at ≡ section_header_at h i) (b : ℕ) (read : b ≡ get_or f at 0) where
-    pub span_slash : (r : Span) (d : Digits) → eqb b SLASH ≡ true → d ≡ slash_offset f at → r ≡ slash_span f h d → r ≡ section_span f h i
+    pub span_slash : (r : Span) (d : Option ℕ) → eqb b SLASH ≡ true → d ≡ slash_offset f at → r ≡ slash_span f h d → r ≡ section_span f h i
     unfolding section_span_at pick
     span_slash r d z q p = rw (← is, ← read, z, ← q) p
 

@@ -1,5 +1,5 @@
 -- Laws of sections' names that rest on what a slash's digits come to, and so cannot stand beside that definition: an edit of it must stay readable there.
-use Rattle.std.specs.Prelude.{◌≡◌, refl, Bool, ◌&&◌, List, ℕ, suc, eqb, get_or}
+use Rattle.std.specs.Prelude.{◌≡◌, refl, Bool, ◌&&◌, List, ℕ, suc, eqb, get_or, None, Option, Some}
 use Rattle.std.proofs.Common.{sym, ◌∙◌, arith}
 use Rattle.std.proofs.Math.Bool.{true, false}
 use Rattle.std.proofs.Math.Dec.{leb}
@@ -11,13 +11,11 @@ use Rattle.object.specs.declared.Header.{Header}
 use Rattle.object.specs.Format.{NAME_SIZE, section_header_at}
 use Rattle.names.specs.declared.Name.TheVariants.{Good, Bad}
 use Rattle.names.specs.Bytes.{run, all_digits, decimal}
-use Rattle.names.specs.declared.Digits.{Digits}
-use Rattle.names.specs.declared.Digits.TheVariants as digits
 use Rattle.names.specs.Name.{name_bytes, short_run, long_run, slash_run, slash_offset, slash_by, slash_digits, section_run, checked, section_name_at, section_name, SLASH, slash_span, section_span_at, span_text, section_text, name_refusal, digits_refusal}
 use Rattle.names.specs.NameLaws.{checked_is, slash_text, text_run}
 
 -- a section's that begins with a slash goes by the offset
-slash_picked : (f : List ℕ) (h : Header) (c : Bool) (o : ℕ) → pick c (long_run f h o) Bad ≡ slash_by f h (pick c (digits.Offset o) digits.Bad)
+slash_picked : (f : List ℕ) (h : Header) (c : Bool) (o : ℕ) → pick c (long_run f h o) Bad ≡ slash_by f h (pick c (Some o) None)
 unfolding pick slash_by
 slash_picked f h true o = refl
 slash_picked f h false o = refl
@@ -28,10 +26,10 @@ slash_is f h at = slash_picked f h (leb 2 (run f at NAME_SIZE) && all_digits (sl
 
 -- where its digits are refused, so is the name, by their number
 module _ (f : List ℕ) (h : Header) (k : ℕ) where
-  by_digits : (d : Digits) → digits_refusal d ≡ suc k → name_refusal (checked good_section_name f (slash_by f h d)) ≡ suc k
+  by_digits : (d : Option ℕ) → digits_refusal d ≡ suc k → name_refusal (checked good_section_name f (slash_by f h d)) ≡ suc k
   unfolding checked slash_by
-  by_digits (digits.Offset o) e = absurd (omega arith)
-  by_digits digits.Bad e = e
+  by_digits (Some o) e = absurd (omega arith)
+  by_digits None e = e
 
   pub slash_refused : (at : ℕ) → get_or f at 0 ≡ SLASH → digits_refusal (slash_offset f at) ≡ suc k → name_refusal (section_name_at f h at) ≡ suc k
   unfolding section_run pick

@@ -1,9 +1,8 @@
 -- Bytes as text: where a run ends, decimal digits, and the order of two names (01, "Records").
+use Rattle.std.specs.Ordering.{Ordering, Less, Equal, Greater}
 use Rattle.std.specs.Prelude.{Bool, true, false, ◌&&◌, List, [], ◌∷◌, ℕ, zero, suc, ◌+◌, ◌-◌, ◌*◌, length, get_or, ltb, leb, eqb}
 use Rattle.util.specs.Pick.{pick}
 use Rattle.util.specs.Prefix.{all_to}
-use Rattle.names.specs.declared.Order.{Order}
-use Rattle.names.specs.declared.Order.TheVariants.{Less, Equal, Greater}
 
 -- how many of the n bytes of f from i stand before the first zero: n where there is none
 unfoldable pub run : List ℕ → ℕ → ℕ → ℕ
@@ -33,7 +32,7 @@ abbrev pub decimal : List ℕ → ℕ
 decimal s = decimal_to s (length s)
 
 -- ---- the order of two names: by the first byte that differs, as unsigned numbers; a prefix comes first
-unfoldable pub compare_bytes : List ℕ → List ℕ → Order
+unfoldable pub compare_bytes : List ℕ → List ℕ → Ordering
 compare_bytes [] [] = Equal
 compare_bytes [] (y ∷ ys) = Less
 compare_bytes (x ∷ xs) [] = Greater

@@ -1,5 +1,5 @@
 -- The names of sections and symbols: a part of the file's bytes, good or bad (01, "Records"; PE/COFF, "Section Table", "Symbol Name Representation", "COFF String Table").
-use Rattle.std.specs.Prelude.{Bool, ◌&&◌, List, [], ℕ, ◌+◌, ◌-◌, get_or, ltb, leb, eqb}
+use Rattle.std.specs.Prelude.{Bool, ◌&&◌, List, [], ℕ, ◌+◌, ◌-◌, get_or, ltb, leb, eqb, None, Option, Some}
 use Rattle.refusal.specs.Refusal.{NAME}
 use Rattle.util.specs.Pick.{pick}
 use Rattle.le.specs.Le.{get, part}
@@ -9,8 +9,6 @@ use Rattle.object.specs.Format.{NAME_SIZE, LONG_OFFSET_AT, LENGTH_SIZE, section_
 use Rattle.names.specs.declared.Name.{Name}
 use Rattle.names.specs.declared.Name.TheVariants.{Good, Bad}
 use Rattle.names.specs.declared.Span.{Span}
-use Rattle.names.specs.declared.Digits.{Digits}
-use Rattle.names.specs.declared.Digits.TheVariants as digits
 use Rattle.names.specs.Bytes.{run, up_to_zero, all_digits, decimal}
 
 -- the bytes of a name: that part of the file; of a bad one none
@@ -54,13 +52,13 @@ abbrev pub slash_digits : List ℕ → ℕ → List ℕ
 slash_digits f at = part f (at + 1) (run f at NAME_SIZE - 1)
 
 -- the offset that they say, where there is at least one and all are digits
-unfoldable pub slash_offset : List ℕ → ℕ → Digits
-slash_offset f at = pick (leb 2 (run f at NAME_SIZE) && all_digits (slash_digits f at)) (digits.Offset (decimal (slash_digits f at))) digits.Bad
+unfoldable pub slash_offset : List ℕ → ℕ → Option ℕ
+slash_offset f at = pick (leb 2 (run f at NAME_SIZE) && all_digits (slash_digits f at)) (Some (decimal (slash_digits f at))) None
 
 -- the name at that offset
-unfoldable pub slash_by : List ℕ → Header → Digits → Name
-slash_by f h (digits.Offset o) = long_run f h o
-slash_by f h digits.Bad = Bad
+unfoldable pub slash_by : List ℕ → Header → Option ℕ → Name
+slash_by f h (Some o) = long_run f h o
+slash_by f h None = Bad
 
 -- the name that a field with a slash stands for
 unfoldable pub slash_run : List ℕ → Header → ℕ → Name
@@ -113,9 +111,9 @@ abbrev pub no_span : Span
 no_span = record { at = 0; most = 0 }
 
 -- by the digits behind a slash: in the string table, if they lead into it
-unfoldable pub slash_span : List ℕ → Header → Digits → Span
-slash_span f h (digits.Offset o) = pick (ltb o (string_length f h)) (long_span f h o) no_span
-slash_span f h digits.Bad = no_span
+unfoldable pub slash_span : List ℕ → Header → Option ℕ → Span
+slash_span f h (Some o) = pick (ltb o (string_length f h)) (long_span f h o) no_span
+slash_span f h None = no_span
 
 -- a section's: by the field's first byte
 unfoldable pub section_span_at : List ℕ → Header → ℕ → Span
@@ -144,9 +142,9 @@ name_refusal (Good at n) = 0
 name_refusal Bad = NAME
 
 -- of the digits behind a slash, which is the name's (`slash_refused`)
-abbrev pub digits_refusal : Digits → ℕ
-digits_refusal (digits.Offset o) = 0
-digits_refusal digits.Bad = NAME
+abbrev pub digits_refusal : Option ℕ → ℕ
+digits_refusal (Some o) = 0
+digits_refusal None = NAME
 
 -- it is not refused
 abbrev pub is_good : Name → Bool

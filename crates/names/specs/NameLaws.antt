@@ -1,6 +1,6 @@
 -- What a good name is: only bytes that a name may have, and an end where one is due (01, "Records").
 -- A byte past the file reads as 0; the survey's refusals 3 and 4 keep every field and the string table within it.
-use Rattle.std.specs.Prelude.{◌≡◌, refl, Bool, ◌&&◌, List, [], ◌∷◌, ◌⊎◌, ℕ, zero, suc, ◌+◌, ◌-◌, ◌≤◌, ◌<◌, min, eqb, length, get_or, take, drop}
+use Rattle.std.specs.Prelude.{◌≡◌, refl, Bool, ◌&&◌, List, [], ◌∷◌, ◌⊎◌, ℕ, zero, suc, ◌+◌, ◌-◌, ◌≤◌, ◌<◌, min, eqb, length, get_or, take, drop, None, Option, Some}
 use Rattle.std.proofs.Common.{sym, ap, ◌∙◌, inl, inr, ⊎_elim, not-suc-le-zero, arith, drop_of_length-le, drop-cons, add-one}
 use Rattle.std.proofs.Math.Bool.{true, false}
 use Rattle.std.proofs.Math.Dec.{ltb, leb}
@@ -18,8 +18,6 @@ use Rattle.object.specs.Format.{NAME_SIZE, LONG_OFFSET_AT, section_header_at, sy
 use Rattle.names.specs.declared.Name.{Name}
 use Rattle.names.specs.declared.Name.TheVariants.{Good, Bad}
 use Rattle.names.specs.Bytes.{run, up_to_zero, all_digits, decimal, are_same_bytes, UNDEF}
-use Rattle.names.specs.declared.Digits.{Digits}
-use Rattle.names.specs.declared.Digits.TheVariants as digits
 use Rattle.names.specs.Name.{name_bytes, short_run, long_run, symbol_run, slash_run, slash_by, slash_digits, section_run, checked, section_name_at, symbol_name_at, section_name, symbol_name, SLASH, left_from, long_span, span_at, no_span, slash_span, span_text, symbol_text}
 
 -- ---- where a run ends
@@ -338,10 +336,10 @@ module _ (f : List ℕ) (h : Header) (at n : ℕ) where
       let k : r < left = ltb-true r left (and_right (leb 4 offset) (ltb r left) t) in
       rw (lt-ltb offset (string_length f h) (omega arith)) (long_text f h at n offset e)
 
-  pub slash_text : (d : Digits) → slash_by f h d ≡ Good at n → span_text f (slash_span f h d) ≡ part f at n
+  pub slash_text : (d : Option ℕ) → slash_by f h d ≡ Good at n → span_text f (slash_span f h d) ≡ part f at n
   unfolding slash_by slash_span
-  slash_text (digits.Offset o) e = tail_text o e
-  slash_text digits.Bad e = cc
+  slash_text (Some o) e = tail_text o e
+  slash_text None e = cc
 
 -- ---- a text is one that is shorter than k bytes if its first k bytes are
 same_next : (x : ℕ) (a b y : List ℕ) (t : Bool) → ((w : ℕ) (z : List ℕ) → y ≡ w ∷ z → are_same_bytes a z ≡ are_same_bytes b z) → are_same_bytes (pick t [] (x ∷ a)) y ≡ are_same_bytes (pick t [] (x ∷ b)) y

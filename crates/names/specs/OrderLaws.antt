@@ -1,11 +1,10 @@
 -- The order of names is a total order that agrees with equality: one of the three answers always stands, Equal means the same bytes,
 -- and Less goes one way only and on from name to name.
+use Rattle.std.specs.Ordering.{Ordering, Less, Equal, Greater}
 use Rattle.std.specs.Prelude.{◌≡◌, refl, true, List, [], ◌∷◌, ℕ, ◌<◌, eqb}
 use Rattle.std.proofs.Common.{sym, ap, ◌∙◌, ⊎_elim, arith}
 use borrow.Author.Tests.{lt-ltb, le-ltb, eq-eqb, eqb-true}
 use Rattle.util.specs.Pick.{pick, le_or_lt, and_left, and_right}
-use Rattle.names.specs.declared.Order.{Order}
-use Rattle.names.specs.declared.Order.TheVariants.{Less, Equal, Greater}
 use Rattle.names.specs.Bytes.{compare_bytes, are_same_bytes}
 
 -- ---- the first bytes decide, where they differ; else what is left does
@@ -50,7 +49,7 @@ same_equal a b e = rw e (compare_self b)
 
 -- ---- antisymmetry: Less one way is exactly Greater the other
 -- the answer for the two names the other way round
-abbrev pub turned : Order → Order
+abbrev pub turned : Ordering → Ordering
 turned Less = Greater
 turned Equal = Equal
 turned Greater = Less

@@ -10,11 +10,11 @@ pub use place::{
 };
 pub use spelling::{compare, is_undef, same};
 
-// Where a good name starts in the file, and how long it is.
+// Where a good name starts in the file, and how many bytes it has.
 #[derive(Clone, Copy)]
-pub enum Name {
-    Good(usize, usize),
-    Bad,
+pub struct Name {
+    pub at: usize,
+    pub length: usize,
 }
 
 // Where a symbol's name stands: its first byte, and the most bytes that it may take.
@@ -24,17 +24,3 @@ pub struct Span {
     pub most: usize,
 }
 
-// The offset that the digits behind a slash say.
-#[derive(Clone, Copy)]
-pub enum Digits {
-    Offset(u64),
-    Bad,
-}
-
-// How one name stands to another by their bytes: a prefix comes first.
-#[derive(Clone, Copy)]
-pub enum Order {
-    Less,
-    Equal,
-    Greater,
-}

@@ -26,7 +26,7 @@ ghost use Rattle.names.specs.Name.{
 };
 
 use crate::spelling::{all_digits, decimal, is_undef, run};
-use crate::{Digits, Name, Span};
+use crate::{Name, Span};
 use object::Header;
 
 // What a section's name begins with that stands in the string table.
@@ -36,27 +36,27 @@ pub const SLASH: u8 = 0x2F;
 const UNDEF_ROOM: usize = 6;
 
 // The part of the string table at `offset`, up to a zero that lies within the table.
-fn long_run(f: &[u8], h: Header, offset: u64) -> Name
+fn long_run(f: &[u8], h: Header, offset: u64) -> Option<Name>
     ensures { result ≡ long_run f.now h offset }
 {
     let length = object::string_length(f, h) as usize;
     let from = offset as usize;
     if from < object::LENGTH_SIZE {
-        return Name::Bad;
+        return None;
     }
     if length <= from {
-        return Name::Bad;
+        return None;
     }
     let at = object::string_table(h) + from;
     let n = run(f, at, length - from);
     if n < length - from {
-        Name::Good(at, n)
+        Some(Name { at, length: n })
     } else {
-        Name::Bad
+        None
     }
 }
 
-fn symbol_run(f: &[u8], h: Header, at: usize) -> Name
+fn symbol_run(f: &[u8], h: Header, at: usize) -> Option<Name>
     requires { at < 2 ^ 38 }
     ensures { result ≡ symbol_run f.now h at }
 {
@@ -66,47 +66,50 @@ fn symbol_run(f: &[u8], h: Header, at: usize) -> Name
     }
     let empty = le::byte_at(f, at) == 0;
     if empty {
-        Name::Bad
+        None
     } else {
-        Name::Good(at, run(f, at, object::NAME_SIZE))
+        Some(Name {
+            at,
+            length: run(f, at, object::NAME_SIZE),
+        })
     }
 }
 
 // A slash and one to seven digits: the offset of the name in the string table.
-fn offset_at(f: &[u8], at: usize) -> Digits
+fn offset_at(f: &[u8], at: usize) -> Option<u64>
     requires { at < 2 ^ 38 }
     ensures { result ≡ slash_offset f.now at }
 {
     let n = run(f, at, object::NAME_SIZE);
     if n < 2 {
-        return Digits::Bad;
+        return None;
     }
     let digits = le::part(f, at + 1, n - 1);
     if all_digits(digits) {
-        Digits::Offset(decimal(digits))
+        Some(decimal(digits))
     } else {
-        Digits::Bad
+        None
     }
 }
 
 // Of section i, whose name begins with a slash.
-pub fn slash_offset(f: &[u8], h: Header, i: u32) -> Digits
+pub fn slash_offset(f: &[u8], h: Header, i: u32) -> Option<u64>
     ensures { result ≡ slash_offset f.now (section_header_at h i) }
 {
     offset_at(f, object::section_header_at(h, i))
 }
 
-fn slash_run(f: &[u8], h: Header, at: usize) -> Name
+fn slash_run(f: &[u8], h: Header, at: usize) -> Option<Name>
     requires { at < 2 ^ 38 }
     ensures { result ≡ slash_run f.now h at }
 {
     match offset_at(f, at) {
-        Digits::Offset(o) => long_run(f, h, o),
-        Digits::Bad => Name::Bad,
+        Some(o) => long_run(f, h, o),
+        None => None,
     }
 }
 
-fn section_run(f: &[u8], h: Header, at: usize) -> Name
+fn section_run(f: &[u8], h: Header, at: usize) -> Option<Name>
     requires { at < 2 ^ 38 }
     ensures { result ≡ section_run f.now h at }
 {
@@ -114,91 +117,94 @@ fn section_run(f: &[u8], h: Header, at: usize) -> Name
     if slash {
         slash_run(f, h, at)
     } else {
-        Name::Good(at, run(f, at, object::NAME_SIZE))
+        Some(Name {
+            at,
+            length: run(f, at, object::NAME_SIZE),
+        })
     }
 }
 
-fn checked_section(f: &[u8], name: Name) -> Name
+fn checked_section(f: &[u8], name: Option<Name>) -> Option<Name>
     ensures { result ≡ checked good_section_name f.now name }
 {
     match name {
-        Name::Good(at, n) => {
+        Some(n) => {
             if chars::good_section_name(le::part(f, at, n)) {
                 Name::Good(at, n)
             } else {
-                Name::Bad
+                None
             }
         }
-        Name::Bad => Name::Bad,
+        None => None,
     }
 }
 
-fn checked_symbol(f: &[u8], name: Name) -> Name
+fn checked_symbol(f: &[u8], name: Option<Name>) -> Option<Name>
     ensures { result ≡ checked good_symbol_name f.now name }
 {
     match name {
-        Name::Good(at, n) => {
+        Some(n) => {
             if chars::good_symbol_name(le::part(f, at, n)) {
                 Name::Good(at, n)
             } else {
-                Name::Bad
+                None
             }
         }
-        Name::Bad => Name::Bad,
+        None => None,
     }
 }
 
 // The name of section i.
-pub fn section_name(f: &[u8], h: Header, i: u32) -> Name
+pub fn section_name(f: &[u8], h: Header, i: u32) -> Option<Name>
     ensures { result ≡ section_name f.now h i }
 {
     checked_section(f, section_run(f, h, object::section_header_at(h, i)))
 }
 
 // The name of symbol j.
-pub fn symbol_name(f: &[u8], h: Header, j: u32) -> Name
+pub fn symbol_name(f: &[u8], h: Header, j: u32) -> Option<Name>
     ensures { result ≡ symbol_name f.now h j }
 {
     checked_symbol(f, symbol_run(f, h, object::symbol_record_at(h, j)))
 }
 
 // Where a name starts in the file.
-pub fn name_start(name: Name) -> u64
+pub fn name_start(name: Option<Name>) -> u64
     ensures { result ≡ name_start name }
 {
     match name {
-        Name::Good(at, _) => at as u64,
-        Name::Bad => 0,
+        Some(n) => n.at as u64,
+        None => 0,
     }
 }
 
 // How long it is.
-pub fn name_length(name: Name) -> u64
+pub fn name_length(name: Option<Name>) -> u64
     ensures { result ≡ name_length name }
 {
     match name {
-        Name::Good(_, n) => n as u64,
-        Name::Bad => 0,
+        Some(n) => n.length as u64,
+        None => 0,
     }
 }
 
 // The bytes of a name: that part of the file; of a bad one none.
-pub fn name_bytes(f: &[u8], name: Name) -> &[u8]
+pub fn name_bytes(f: &[u8], name: Option<Name>) -> &[u8]
     ensures { result.now ≡ name_bytes f.now name }
 {
     match name {
-        Name::Good(at, n) => le::part(f, at, n),
-        Name::Bad => &f[..0],
+        Some(n) => le::part(f, at, n),
+        None => &f[..0],
     }
 }
 
 // 6 is not given for it.
-pub fn is_good(name: Name) -> bool
+pub fn is_good(name: Option<Name>) -> bool
     ensures { result ≡ is_good name }
 {
     match name {
-        Name::Good(_, _) => true,
-        Name::Bad => false,
+        Some(_) => true,
+        None => false,
     }
 }
 
@@ -256,18 +262,18 @@ fn no_span() -> Span
 }
 
 // By the digits behind a slash.
-fn slash_span(f: &[u8], h: Header, digits: Digits) -> Span
+fn slash_span(f: &[u8], h: Header, digits: Option<u64>) -> Span
     ensures { result ≡ slash_span f.now h digits }
 {
     match digits {
-        Digits::Offset(o) => {
+        Some(o) => {
             if o < object::string_length(f, h) as u64 {
                 long_span(f, h, o as u32)
             } else {
                 no_span()
             }
         }
-        Digits::Bad => no_span(),
+        None => no_span(),
     }
 }
 

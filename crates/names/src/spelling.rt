@@ -10,7 +10,7 @@ ghost use Rattle.names.specs.Bytes.{
   UNDEF,
 };
 
-use crate::Order;
+use std::cmp::Ordering;
 
 // How many of the n bytes from `at` stand before the first zero.
 pub(crate) fn run(f: &[u8], at: usize, n: usize) -> usize
@@ -71,26 +71,26 @@ pub(crate) fn decimal(s: &[u8]) -> u64
 }
 
 // The order of two names: by the first byte that differs; a prefix comes first.
-pub fn compare(a: &[u8], b: &[u8]) -> Order
+pub fn compare(a: &[u8], b: &[u8]) -> Ordering
     ensures { result ≡ compare_bytes a.now b.now }
 {
     let mut i = 0;
     while i < a.len() {
         if b.len() <= i {
-            return Order::Greater;
+            return Ordering::Greater;
         }
         if a[i] < b[i] {
-            return Order::Less;
+            return Ordering::Less;
         }
         if b[i] < a[i] {
-            return Order::Greater;
+            return Ordering::Greater;
         }
         i += 1;
     }
     if i < b.len() {
-        Order::Less
+        Ordering::Less
     } else {
-        Order::Equal
+        Ordering::Equal
     }
 }
 

@@ -1,4 +1,5 @@
 -- Eight bytes at a time, the ways through a comparison, and the key's loop. Assumes nothing.
+use Rattle.std.specs.Ordering.{Ordering, Less, Equal, Greater}
 use mathlib.Core.Path.{◌≡◌, refl, sym, ap, ◌∙◌}
 use mathlib.Core.Bool.{Bool, true, false}
 use mathlib.Core.List.{List, [], ◌∷◌}
@@ -17,8 +18,6 @@ use lib.ListN.{length, get_or, take, drop, length-take, get_or-eq_default}
 use Rattle.util.specs.Pick.{pick, yes_no, le_or_lt, not_both}
 use Rattle.le.specs.Le.{get, get_same, part, IsBytes}
 use Rattle.names.specs.declared.Span.{Span}
-use Rattle.names.specs.declared.Order.{Order}
-use Rattle.names.specs.declared.Order.TheVariants.{Less, Equal, Greater}
 use Rattle.names.specs.Bytes.{up_to_zero, compare_bytes}
 use Rattle.names.specs.Name.{span_text}
 use Rattle.names.specs.NameLaws.{text_next}
@@ -137,7 +136,7 @@ module _ (x y : ℕ) (xs ys : List ℕ) where
   unfolding compare_bytes pick
   next_same e h = rw (ne_eqb x 0 (λ z. omega arith), ne_eqb y 0 (λ z. omega arith), le-ltb x y (omega arith), le-ltb y x (omega arith))
 
-abbrev Left : List ℕ → List ℕ → ℕ → Order
+abbrev Left : List ℕ → List ℕ → ℕ → Ordering
 Left a b i = compare_bytes (up_to_zero (drop i a)) (up_to_zero (drop i b))
 
 module _ (a b : List ℕ) (i : ℕ) where
@@ -230,7 +229,7 @@ module _ (f : List ℕ) (a b : Span) where
   pub spans_same : a.at ≡ b.at → a.most ≡ b.most → Equal ≡ compare_bytes (span_text f a) (span_text f b)
   spans_same e d = rw (e, d) (sym (compare_self (span_text f b)))
 
-  pub spans_by : (s t : List ℕ) (r : Order) → r ≡ compare_bytes (up_to_zero s) (up_to_zero t) → s ≡ part f a.at a.most → t ≡ part f b.at b.most
+  pub spans_by : (s t : List ℕ) (r : Ordering) → r ≡ compare_bytes (up_to_zero s) (up_to_zero t) → s ≡ part f a.at a.most → t ≡ part f b.at b.most
       → r ≡ compare_bytes (span_text f a) (span_text f b)
   spans_by s t r p e d = rw (← e, ← d) p
 

@@ -1,8 +1,7 @@
 -- A name's key: its first bytes as one number.
+use Rattle.std.specs.Ordering.{Ordering, Less, Greater}
 use Rattle.std.specs.Prelude.{List, [], ◌∷◌, ℕ, zero, suc, ◌+◌, ◌*◌, ◌^◌, ltb}
 use Rattle.util.specs.Pick.{pick}
-use Rattle.names.specs.declared.Order.{Order}
-use Rattle.names.specs.declared.Order.TheVariants.{Less, Greater}
 
 -- the first k bytes, the first byte highest; zeros where the name is shorter
 unfoldable pub key : ℕ → List ℕ → ℕ
@@ -15,5 +14,5 @@ abbrev pub KEY_BYTES : ℕ
 KEY_BYTES = 8
 
 -- less, greater, or else what is given
-abbrev pub order_by : ℕ → ℕ → Order → Order
+abbrev pub order_by : ℕ → ℕ → Ordering → Ordering
 order_by x y o = pick (ltb x y) Less (pick (ltb y x) Greater o)

@@ -1,4 +1,5 @@
 -- Key order is name order: two names without a zero byte are in the order of their keys, and where these are equal of what follows.
+use Rattle.std.specs.Ordering.{Ordering, Less, Greater}
 use Rattle.std.specs.Prelude.{◌≡◌, refl, List, [], ◌∷◌, ℕ, zero, suc, ◌+◌, ◌*◌, ◌^◌, ◌≤◌, ◌<◌, length, get_or, drop}
 use Rattle.std.proofs.Common.{sym, ◌∙◌, ⊎_elim, suc-mul, mul-le-mul_right, mul-pos, arith}
 use Rattle.std.proofs.Math.Nat.{pow-succ'}
@@ -7,8 +8,6 @@ use Rattle.std.proofs.Math.ListN.{get_or-eq_default}
 use Rattle.util.specs.Pick.{pick, le_or_lt, three_ways}
 use Rattle.le.specs.Le.{IsBytes, part, part_most, part_at}
 use Rattle.names.specs.declared.Span.{Span}
-use Rattle.names.specs.declared.Order.{Order}
-use Rattle.names.specs.declared.Order.TheVariants.{Less, Greater}
 use Rattle.names.specs.Bytes.{compare_bytes, up_to_zero}
 use Rattle.names.specs.Name.{span_text}
 use Rattle.names.specs.NameLaws.{text_no_zero, text_bytes_lem}
@@ -19,7 +18,7 @@ abbrev pub NoZero : List ℕ → Type 0
 NoZero s = (i : ℕ) → i < length s → 0 < get_or s i 0
 
 -- ---- by number
-module _ (x y : ℕ) (o : Order) where
+module _ (x y : ℕ) (o : Ordering) where
   by_less : x < y → order_by x y o ≡ Less
   unfolding pick
   by_less h = rw (lt-ltb x y h)
@@ -37,7 +36,7 @@ three : {P : Type 0} (x y : ℕ) → (x < y → P) → (x ≡ y → P) → (y < 
 three x y l e g = ⊎_elim l (⊎_elim e g) (three_ways x y)
 
 -- the same added to both changes nothing
-by_more : (n x y : ℕ) (o : Order) → order_by (n + x) (n + y) o ≡ order_by x y o
+by_more : (n x y : ℕ) (o : Ordering) → order_by (n + x) (n + y) o ≡ order_by x y o
 by_more n x y o =
     three x y (λ h. rw (by_less x y o h) (by_less (n + x) (n + y) o (omega arith)))
     (λ h. rw (by_equal x y o h) (by_equal (n + x) (n + y) o (omega arith)))

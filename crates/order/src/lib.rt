@@ -7,7 +7,8 @@ ghost use Rattle.names.specs.Name.{span_text};
 ghost use Rattle.order.specs.Key.{KEY_BYTES, key};
 ghost use Rattle.order.specs.Eights.{Clean, Alike, Ahead};
 
-use names::{Order, Span};
+use names::Span;
+use std::cmp::Ordering;
 
 // Of each byte the lowest bit, and the highest.
 const ONES: u64 = 0x0101010101010101;
@@ -68,7 +69,7 @@ fn same_eights(a: &[u8], b: &[u8]) -> usize
 }
 
 // The order of two texts, each up to its first zero or its end.
-fn compare_texts(a: &[u8], b: &[u8]) -> Order
+fn compare_texts(a: &[u8], b: &[u8]) -> Ordering
     ensures { result ≡ compare_bytes (up_to_zero a.now) (up_to_zero b.now) }
 {
     let mut i = same_eights(a, b);
@@ -76,30 +77,30 @@ fn compare_texts(a: &[u8], b: &[u8]) -> Order
         let x = a[i];
         let y = le::byte_at(b, i);
         if x < y {
-            return Order::Less;
+            return Ordering::Less;
         }
         if y < x {
-            return Order::Greater;
+            return Ordering::Greater;
         }
         if x == 0 {
-            return Order::Equal;
+            return Ordering::Equal;
         }
         i += 1;
     }
     if 0 < le::byte_at(b, i) {
-        Order::Less
+        Ordering::Less
     } else {
-        Order::Equal
+        Ordering::Equal
     }
 }
 
 // The order of two symbols' names. Names that stand in one place are equal at once.
-pub fn compare(f: &[u8], a: Span, b: Span) -> Order
+pub fn compare(f: &[u8], a: Span, b: Span) -> Ordering
     ensures { result ≡ compare_bytes (span_text f.now a) (span_text f.now b) }
 {
     if a.at == b.at {
         if a.most == b.most {
-            return Order::Equal;
+            return Ordering::Equal;
         }
     }
     compare_texts(le::part(f, a.at, a.most), le::part(f, b.at, b.most))

@@ -1,8 +1,8 @@
 -- What the parts of the plan promise.
-use Rattle.std.specs.Prelude.{◌≡◌, List, ◌∷◌, ◌++◌, ℕ, length}
+use Rattle.arch.specs.declared.RVA.{RVA}
+use Rattle.std.specs.Prelude.{◌≡◌, List, ◌∷◌, ◌++◌, ℕ, length, Option}
 use Rattle.refusal.specs.Refusal.{BASE, STORAGE}
 use Rattle.util.specs.Pick.{pick}
-use Rattle.arch.specs.declared.Offset.{Offset}
 use Rattle.object.specs.declared.Header.{Header}
 use Rattle.layout.specs.Layout.{undef_start}
 use Rattle.homes.specs.Home.{home_in}
@@ -31,7 +31,7 @@ with_room (survey.Refused k) l n = Refused k
 with_room (survey.Accepted c) l n = pick (room_for c l) (Ready c n) (Refused STORAGE)
 
 -- ---- the plan from refusal 9 on, by homes and targets, with n extern names
-module _ (f : List ℕ) (h : Header) (home : ℕ → Offset) (target : ℕ → Target) (n : ℕ) (l : Lengths) where
+module _ (f : List ℕ) (h : Header) (home : ℕ → Option RVA) (target : ℕ → Target) (n : ℕ) (l : Lengths) where
   -- the counts with those
   abbrev pub planned_counts : Counts
   planned_counts = counts_by f h home n (tally_by f h home target)

@@ -1,4 +1,5 @@
 -- What a file has whose lines are printed: no more than the program has room for.
+use Rattle.std.specs.Ordering.{Ordering, Less, Equal, Greater}
 use Rattle.std.specs.Prelude.{◌≡◌, refl, Bool, leb}
 use Rattle.std.proofs.Common.{ap}
 use Rattle.std.proofs.Math.Bool.{true, false}
@@ -14,8 +15,6 @@ use Rattle.object.specs.declared.Header.{Header}
 use Rattle.object.specs.Format.{header_of}
 use Rattle.object.specs.Section.{loaded, relocation_count}
 use Rattle.object.specs.Relocation.{relocation_symbol}
-use Rattle.names.specs.declared.Order.{Order}
-use Rattle.names.specs.declared.Order.TheVariants.{Less, Equal, Greater}
 use Rattle.homes.specs.Home.{section_home}
 use Rattle.homes.specs.Listed.{listed}
 use Rattle.codes.specs.Puts as Puts
@@ -48,7 +47,7 @@ unfolding insert_name
 insert_one f h j [] = omega arith
 insert_one f h j (x ∷ xs) = by_order_lem (order_of f h j x) (insert_one f h j xs)
   where
-    by_order_lem : (o : Order) → length (insert_name f h j xs) ≤ suc (length xs)
+    by_order_lem : (o : Ordering) → length (insert_name f h j xs) ≤ suc (length xs)
         → length (by_order o (j ∷ x ∷ xs) (min j x ∷ xs) (x ∷ insert_name f h j xs)) ≤ suc (suc (length xs))
     by_order_lem Less k = omega arith
     by_order_lem Equal k = omega arith

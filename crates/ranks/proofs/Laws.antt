@@ -1,4 +1,5 @@
 -- The ways through the code, from two sections to all of them. Assumes nothing.
+use Rattle.std.specs.Ordering.{Ordering, Less, Equal, Greater}
 use mathlib.Core.Path.{◌≡◌, refl, sym, ap, ◌∙◌}
 use mathlib.Core.Bool.{Bool, true, false}
 use mathlib.Core.List.{List, [], ◌∷◌, ◌++◌}
@@ -14,8 +15,6 @@ use Rattle.util.specs.Prefix.{list_to, length_list}
 use Rattle.limits.specs.Limits.{MAX_SECTIONS}
 use Rattle.object.specs.declared.Header.{Header}
 use Rattle.object.specs.Section.{loaded}
-use Rattle.names.specs.declared.Order.{Order}
-use Rattle.names.specs.declared.Order.TheVariants.{Less, Equal, Greater}
 use Rattle.names.specs.Bytes.{compare_bytes}
 use Rattle.names.specs.declared.Span.{Span}
 use Rattle.names.specs.Name.{section_span, span_text, section_text}
@@ -46,7 +45,7 @@ module _ (late : ℕ → ℕ) (i j a b : ℕ) (p : a ≡ late i) (q : b ≡ late
 
 pub ruleset tie_ways = (tie_same, tie_apart)
 
-module _ (f : List ℕ) (h : Header) (i j : ℕ) (a b : Span) (o : Order) (p : a ≡ section_span f h i) (q : b ≡ section_span f h j) (by : o ≡ compare_bytes (span_text f a) (span_text f b)) where
+module _ (f : List ℕ) (h : Header) (i j : ℕ) (a b : Span) (o : Ordering) (p : a ≡ section_span f h i) (q : b ≡ section_span f h j) (by : o ≡ compare_bytes (span_text f a) (span_text f b)) where
   name_order_lem : o ≡ compare_bytes (section_text f h i) (section_text f h j)
   name_order_lem = rw (← p, ← q) by
 

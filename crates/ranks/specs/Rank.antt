@@ -1,17 +1,16 @@
 -- The sections of a file in order of their names. A search for a name (01, "Layout, slots and fixups") takes the first loaded section that has it, so of
 -- equal ones the loaded stand first, and of those the lower number.
+use Rattle.std.specs.Ordering.{Ordering, Less, Equal, Greater}
 use Rattle.std.specs.Prelude.{◌≡◌, Bool, true, false, List, [], ◌∷◌, ℕ, ◌<◌, ◌≤◌, eqb, ltb, leb, length, get_or}
 use Rattle.util.specs.Pick.{pick}
 use Rattle.util.specs.Prefix.{list_to}
 use Rattle.object.specs.declared.Header.{Header}
 use Rattle.object.specs.Section.{loaded}
-use Rattle.names.specs.declared.Order.{Order}
-use Rattle.names.specs.declared.Order.TheVariants.{Less, Equal, Greater}
 use Rattle.names.specs.Bytes.{compare_bytes}
 use Rattle.names.specs.Name.{section_text}
 
 -- by the order of two keys, and of equal ones by `tie`
-unfoldable pub by_keys : Order → Bool → Bool
+unfoldable pub by_keys : Ordering → Bool → Bool
 by_keys Less tie = true
 by_keys Equal tie = tie
 by_keys Greater tie = false

@@ -1,4 +1,5 @@
 -- The order of the sections is total, so there is one list of theirs in that order, and it has each of them once.
+use Rattle.std.specs.Ordering.{Ordering, Less, Equal, Greater}
 use Rattle.std.specs.Prelude.{◌≡◌, Bool, true, false, ◌⊎◌, eqb, length, get_or, take}
 use Rattle.std.proofs.Math.Path.{refl, ap}
 use Rattle.std.proofs.Common.{sym, ◌∙◌, not-suc-le-zero, arith, length-take-le}
@@ -10,8 +11,6 @@ use Rattle.limits.specs.Limits.{MAX_SECTIONS}
 use Rattle.util.specs.Pick.{pick, yes_no, le_or_lt, not_both}
 use Rattle.util.specs.Prefix.{list_to, length_list, list_at}
 use Rattle.object.specs.declared.Header.{Header}
-use Rattle.names.specs.declared.Order.{Order}
-use Rattle.names.specs.declared.Order.TheVariants.{Less, Equal, Greater}
 use Rattle.names.specs.Bytes.{compare_bytes}
 use Rattle.names.specs.Name.{section_text}
 use Rattle.names.specs.OrderLaws.{compare_self, equal_same, less_greater, greater_less, less_less}
@@ -63,13 +62,13 @@ tie_trans late x y z e d =
 abbrev Before : (ℕ → List ℕ) → (ℕ → ℕ) → ℕ → ℕ → Type 0
 Before key late x y = (compare_bytes (key x) (key y) ≡ Less) ⊎ ((key x ≡ key y) × (tie_before late x y ≡ true))
 
-by_keys_lem : (o : Order) (t : Bool) → by_keys o t ≡ true → (o ≡ Less) ⊎ ((o ≡ Equal) × (t ≡ true))
+by_keys_lem : (o : Ordering) (t : Bool) → by_keys o t ≡ true → (o ≡ Less) ⊎ ((o ≡ Equal) × (t ≡ true))
 unfolding by_keys
 by_keys_lem Less t e = inl refl
 by_keys_lem Equal t e = inr (refl, e)
 by_keys_lem Greater t e = not_both false e refl
 
-by_keys_not : (o : Order) (t : Bool) → by_keys o t ≡ false → (o ≡ Greater) ⊎ ((o ≡ Equal) × (t ≡ false))
+by_keys_not : (o : Ordering) (t : Bool) → by_keys o t ≡ false → (o ≡ Greater) ⊎ ((o ≡ Equal) × (t ≡ false))
 unfolding by_keys
 by_keys_not Less t e = not_both true refl e
 by_keys_not Equal t e = inr (refl, e)

@@ -1,13 +1,12 @@
 -- A search in halves for a key among sections that stand in order, whatever the key is: it ends where the lower keys do, and there stands the first of
 -- those that have the key.
+use Rattle.std.specs.Ordering.{Ordering, Less, Equal, Greater}
 use Rattle.std.specs.Prelude.{◌≡◌, Bool, List, ℕ, ◌+◌, ◌-◌, ◌/◌, ◌≤◌, ◌<◌, length, get_or}
 use Rattle.std.proofs.Math.Path.{refl, sym, ap}
 use Rattle.std.proofs.Common.{◌∙◌, ⊎_elim}
 use Rattle.std.proofs.Math.Bool.{true, false}
 use native.Mathlib.Omega.{arith}
 use Rattle.util.specs.Pick.{yes_no, le_or_lt, not_both}
-use Rattle.names.specs.declared.Order.{Order}
-use Rattle.names.specs.declared.Order.TheVariants.{Less, Equal, Greater}
 use Rattle.names.specs.Bytes.{compare_bytes}
 use Rattle.names.specs.Name.{section_text}
 use Rattle.names.specs.OrderLaws.{equal_same, same_equal, less_less}
@@ -16,7 +15,7 @@ use Rattle.ranks.specs.Rank.{by_keys, tie_before, precedes, lateness, section_ra
 use Rattle.ranks.specs.RankLaws.{sections_in_order}
 
 -- a first key is lower
-unfoldable pub is_lower : Order → Bool
+unfoldable pub is_lower : Ordering → Bool
 is_lower Less = true
 is_lower Equal = false
 is_lower Greater = false
@@ -62,11 +61,11 @@ module _ (low : ℕ → Bool) (list : List ℕ) where
 
 -- ---- where the sections stand in order
 module _ (key : ℕ → List ℕ) (late : ℕ → ℕ) (n : ℕ) (list sought : List ℕ) (ord : InOrder key late n list) where
-  low_by : (x y : ℕ) (o : Order) → compare_bytes (key x) (key y) ≡ o → by_keys o (tie_before late x y) ≡ true → lower_than key sought y ≡ true → lower_than key sought x ≡ true
+  low_by : (x y : ℕ) (o : Ordering) → compare_bytes (key x) (key y) ≡ o → by_keys o (tie_before late x y) ≡ true → lower_than key sought y ≡ true → lower_than key sought x ≡ true
   unfolding by_keys is_lower
   low_by x y Less e t l = by_second (compare_bytes (key y) sought) refl l
     where
-      by_second : (o : Order) → compare_bytes (key y) sought ≡ o → is_lower o ≡ true → lower_than key sought x ≡ true
+      by_second : (o : Ordering) → compare_bytes (key y) sought ≡ o → is_lower o ≡ true → lower_than key sought x ≡ true
       by_second Less q r = ap is_lower (less_less (key x) (key y) sought e q)
       by_second Equal q r = cc
       by_second Greater q r = cc
@@ -93,7 +92,7 @@ module _ (key : ℕ → List ℕ) (late : ℕ → ℕ) (n : ℕ) (list sought : 
         (λ q. absurd (not_lower m e (ap (lower_than key sought) (sym s.there) ∙ ends.before s.index q)))
         (le_or_lt p s.index)
 
-    tie_by : (x m : ℕ) (o : Order) → compare_bytes (key x) (key m) ≡ o → key x ≡ sought → key m ≡ sought → by_keys o (tie_before late x m) ≡ true → tie_before late x m ≡ true
+    tie_by : (x m : ℕ) (o : Ordering) → compare_bytes (key x) (key m) ≡ o → key x ≡ sought → key m ≡ sought → by_keys o (tie_before late x m) ≡ true → tie_before late x m ≡ true
     unfolding by_keys
     tie_by x m o c e d t =
         let z : Equal ≡ o = sym (same_equal (key x) (key m) (e ∙ sym d)) ∙ c in
@@ -107,7 +106,7 @@ module _ (key : ℕ → List ℕ) (late : ℕ → ℕ) (n : ℕ) (list sought : 
         let r : precedes key late (get_or list p 0) m ≡ true = rw s.there at (ord.rises p s.index (from_there m s d) s.inside) in
         tie_by (get_or list p 0) m (compare_bytes (key (get_or list p 0)) (key m)) refl e d r
 
-    above_by : (x m : ℕ) (o : Order) → compare_bytes (key x) (key m) ≡ o → key m ≡ sought → by_keys o (tie_before late x m) ≡ true → lower_than key sought x ≡ false → key x ≡ sought
+    above_by : (x m : ℕ) (o : Ordering) → compare_bytes (key x) (key m) ≡ o → key m ≡ sought → by_keys o (tie_before late x m) ≡ true → lower_than key sought x ≡ false → key x ≡ sought
     unfolding by_keys is_lower
     above_by x m Less c d t l =
         let z : lower_than key sought x ≡ true = ap is_lower (ap (compare_bytes (key x)) (sym d) ∙ c) in

@@ -10,8 +10,8 @@ ghost use Rattle.ranks.specs.Rank.{tie_before, precedes, ranked, lateness, secti
 ghost use Rattle.ranks.specs.RankLaws.{Climbs};
 ghost use Rattle.ranks.specs.Merge.{rank_all, left_next, RunsClimb, RunsJoin};
 
-use names::Order;
 use object::Header;
+use std::cmp::Ordering;
 
 fn lateness(f: &[u8], h: Header, i: u16) -> u16
     ensures { result ≡ lateness f.now h i }
@@ -41,9 +41,9 @@ fn precedes(f: &[u8], h: Header, i: u16, j: u16) -> bool
         names::section_span(f, h, i as u32),
         names::section_span(f, h, j as u32),
     ) {
-        Order::Less => true,
-        Order::Equal => tie_before(f, h, i, j),
-        Order::Greater => false,
+        Ordering::Less => true,
+        Ordering::Equal => tie_before(f, h, i, j),
+        Ordering::Greater => false,
     }
 }
 

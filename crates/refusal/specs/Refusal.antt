@@ -1,169 +1,191 @@
--- Refusals by number. A code is 0 where nothing is refused, else the number of the first refusal that applies.
-use Rattle.std.specs.Prelude.{◌≡◌, refl, ℕ, zero, suc}
-use Rattle.refusal.specs.declared.Answer.{Answer}
-use Rattle.refusal.specs.declared.Answer.TheVariants.{Done, Refused}
-use Rattle.refusal.specs.declared.Number.{Number}
-use Rattle.refusal.specs.declared.Number.TheVariants.{Value, Refusal}
+-- Refusals, and what is said where one may apply.
+use Rattle.std.specs.Prelude.{◌≡◌, ℕ, Result, Ok, Err}
+use Rattle.std.proofs.Common.{sym, ◌∙◌}
+use Rattle.refusal.specs.declared.Refusal.{Refusal}
+use Rattle.refusal.specs.declared.Refusal.TheVariants.{FileSize, Machine, SectionTable, SymbolTable, SectionData, Name, SectionNumber, Pages, Externs, Target, Place, Base, Storage, Position, NotMapped, NotOnAPage, NotWholePages, TooLong, NoSection, NoEntry, NoRoutine, RawData, Overlap}
 
--- the answer for a code
-unfoldable pub done_of : ℕ → Answer
-done_of zero = Done
-done_of (suc k) = Refused (suc k)
+-- the number of each (01, "The operations and what they turn down"; 02, N1 and N6)
+abbrev pub refusal_number : Refusal → ℕ
+refusal_number FileSize = 1
+refusal_number Machine = 2
+refusal_number SectionTable = 3
+refusal_number SymbolTable = 4
+refusal_number SectionData = 5
+refusal_number Name = 6
+refusal_number SectionNumber = 7
+refusal_number Pages = 8
+refusal_number Externs = 9
+refusal_number Target = 10
+refusal_number Place = 11
+refusal_number Base = 12
+refusal_number Storage = 13
+refusal_number Position = 14
+refusal_number NotMapped = 15
+refusal_number NotOnAPage = 16
+refusal_number NotWholePages = 17
+refusal_number TooLong = 18
+refusal_number NoSection = 19
+refusal_number NoEntry = 20
+refusal_number NoRoutine = 21
+refusal_number RawData = 22
+refusal_number Overlap = 23
 
--- the same for an operation that answers a number
-unfoldable pub number_of : ℕ → ℕ → Number
-number_of zero v = Value v
-number_of (suc k) v = Refusal (suc k)
+-- what the checks of an operation come to: nothing is refused, or the first refusal that applies
+abbrev pub Code : Type 0
+Code = Result Unit Refusal
+
+-- as a number: 0 where nothing is refused
+abbrev pub code_number : {A : Type 0} → Result A Refusal → ℕ
+code_number (Ok _) = 0
+code_number (Err r) = refusal_number r
+
+-- nothing is refused
+abbrev pub PASSES : Code
+PASSES = Ok tt
+
+-- the answer of an operation that hands out a value
+unfoldable pub answer_of : {A : Type 0} → Code → A → Result A Refusal
+answer_of (Ok _) v = Ok v
+answer_of (Err r) v = Err r
 
 -- what a lent buffer holds at exit: the new contents, or on a refusal what it held before
-unfoldable pub unless_refused : {A : Type 0} → ℕ → A → A → A
-unless_refused zero new old = new
-unless_refused (suc k) new old = old
+unfoldable pub unless_refused : {A : Type 0} → Code → A → A → A
+unless_refused (Ok _) new old = new
+unless_refused (Err r) new old = old
 
--- ---- the numbers (01, "The operations and what they turn down")
+-- ---- the refusals (01, "The operations and what they turn down")
 -- survey: the file is shorter than a header or longer than the limit
-abbrev pub FILE_SIZE : ℕ
-FILE_SIZE = 1
+abbrev pub FILE_SIZE : Code
+FILE_SIZE = Err FileSize
 
 -- the machine is neither i386 nor x64
-abbrev pub MACHINE : ℕ
-MACHINE = 2
+abbrev pub MACHINE : Code
+MACHINE = Err Machine
 
 -- too many sections, or their table does not lie in the file
-abbrev pub SECTION_TABLE : ℕ
-SECTION_TABLE = 3
+abbrev pub SECTION_TABLE : Code
+SECTION_TABLE = Err SectionTable
 
 -- too many symbol records, an auxiliary record past their end, the symbols or strings not in the file, or a string length under 4
-abbrev pub SYMBOL_TABLE : ℕ
-SYMBOL_TABLE = 4
+abbrev pub SYMBOL_TABLE : Code
+SYMBOL_TABLE = Err SymbolTable
 
 -- a loaded section has a virtual address or bytes past the file, relocations lie past the file or their extended count is 0, or there are too many
-abbrev pub SECTION_DATA : ℕ
-SECTION_DATA = 5
+abbrev pub SECTION_DATA : Code
+SECTION_DATA = Err SectionData
 
 -- a section's or symbol's name has a byte or a form that is not allowed, or does not end in the string table
-abbrev pub NAME : ℕ
-NAME = 6
+abbrev pub NAME : Code
+NAME = Err Name
 
 -- a symbol's section number is above the file's count
-abbrev pub SECTION_NUMBER : ℕ
-SECTION_NUMBER = 7
+abbrev pub SECTION_NUMBER : Code
+SECTION_NUMBER = Err SectionNumber
 
 -- more mapped pages than MAX-PAGES
-abbrev pub PAGES : ℕ
-PAGES = 8
+abbrev pub PAGES : Code
+PAGES = Err Pages
 
 -- more extern names than MAX-EXTERNS
-abbrev pub EXTERNS : ℕ
-EXTERNS = 9
+abbrev pub EXTERNS : Code
+EXTERNS = Err Externs
 
 -- a relocation names an auxiliary record or a symbol whose kind and place have no target, or its type is not carried
-abbrev pub TARGET : ℕ
-TARGET = 10
+abbrev pub TARGET : Code
+TARGET = Err Target
 
 -- a fixup has a byte outside the mapped pages
-abbrev pub PLACE : ℕ
-PLACE = 11
+abbrev pub PLACE : Code
+PLACE = Err Place
 
 -- load: the base is no page multiple, or above the highest
-abbrev pub BASE : ℕ
-BASE = 12
+abbrev pub BASE : Code
+BASE = Err Base
 
 -- a lent buffer is too short; of later calls also an image that is no page multiple, or too few marks
-abbrev pub STORAGE : ℕ
-STORAGE = 13
+abbrev pub STORAGE : Code
+STORAGE = Err Storage
 
 -- patch: the position is above the list's count
-abbrev pub POSITION : ℕ
-POSITION = 14
+abbrev pub POSITION : Code
+POSITION = Err Position
 
 -- read, write, patch and the page writes: an address, fixup or page that is not mapped or not lent, or a fixup of an unknown width
-abbrev pub NOT_MAPPED : ℕ
-NOT_MAPPED = 15
+abbrev pub NOT_MAPPED : Code
+NOT_MAPPED = Err NotMapped
 
 -- a page write, an empty map or a padded write does not start on a page
-abbrev pub NOT_ON_A_PAGE : ℕ
-NOT_ON_A_PAGE = 16
+abbrev pub NOT_ON_A_PAGE : Code
+NOT_ON_A_PAGE = Err NotOnAPage
 
 -- a page write or an empty map is not of whole pages
-abbrev pub NOT_WHOLE_PAGES : ℕ
-NOT_WHOLE_PAGES = 17
+abbrev pub NOT_WHOLE_PAGES : Code
+NOT_WHOLE_PAGES = Err NotWholePages
 
 -- write: more than a page of bytes
-abbrev pub TOO_LONG : ℕ
-TOO_LONG = 18
+abbrev pub TOO_LONG : Code
+TOO_LONG = Err TooLong
 
 -- questions to the tables: no section holds the address or the file offset
-abbrev pub NO_SECTION : ℕ
-NO_SECTION = 19
+abbrev pub NO_SECTION : Code
+NO_SECTION = Err NoSection
 
 -- no record has that name, address or number
-abbrev pub NO_ENTRY : ℕ
-NO_ENTRY = 20
+abbrev pub NO_ENTRY : Code
+NO_ENTRY = Err NoEntry
 
 -- no listed symbol of the section that holds the address lies at it or below (02, N1)
-abbrev pub NO_ROUTINE : ℕ
-NO_ROUTINE = 21
+abbrev pub NO_ROUTINE : Code
+NO_ROUTINE = Err NoRoutine
 
 -- survey, behind 11: a fixup is not wholly inside its own section's raw data (02, N6)
-abbrev pub RAW_DATA : ℕ
-RAW_DATA = 22
+abbrev pub RAW_DATA : Code
+RAW_DATA = Err RawData
 
 -- two fixups share a byte (02, N6)
-abbrev pub OVERLAP : ℕ
-OVERLAP = 23
+abbrev pub OVERLAP : Code
+OVERLAP = Err Overlap
 
 -- what an operation says and leaves that writes one lent buffer: `code` is the definition's, and on a refusal nothing has changed
-pub record Leaves {A : Type 0} (code : ℕ) (old new at_exit : A) (r : Answer) : Type 0 where
-  pub says : r ≡ done_of code
+pub record Leaves {A : Type 0} (code : Code) (old new at_exit : A) (r : Code) : Type 0 where
+  pub says : r ≡ code
   pub leaves : at_exit ≡ unless_refused code new old
 
 -- the same of one that writes two
-pub record LeavesBoth {A B : Type 0} (code : ℕ) (old new at_exit : A) (old₂ new₂ at-exit₂ : B) (r : Answer) : Type 0 where
-  pub says : r ≡ done_of code
+pub record LeavesBoth {A B : Type 0} (code : Code) (old new at_exit : A) (old₂ new₂ at-exit₂ : B) (r : Code) : Type 0 where
+  pub says : r ≡ code
   pub leaves : at_exit ≡ unless_refused code new old
   pub leaves₂ : at-exit₂ ≡ unless_refused code new₂ old₂
 
 -- ---- the two ways of an operation that checks first: nothing is refused and it has written, or it refuses and has not
-pub done_is : (k code : ℕ) → k ≡ code → k ≡ 0 → Done ≡ done_of code
-unfolding done_of
-done_is k code e z = rw (← e, z)
+pub value_is : {A : Type 0} (k code : Code) (v x : A) (u : Unit) → k ≡ code → k ≡ Ok u → x ≡ v → Ok x ≡ answer_of code v
+unfolding answer_of
+value_is k code v x u e z q = rw (← e, z, q)
 
-pub refused_is : (k code : ℕ) → k ≡ code → (k ≡ 0 → ⊥) → Refused k ≡ done_of code
-unfolding done_of
-refused_is zero code e n = absurd (n refl)
-refused_is (suc k) code e n = rw (← e)
+pub refusal_is : {A : Type 0} (k code : Code) (v : A) (r : Refusal) → k ≡ code → k ≡ Err r → Err r ≡ answer_of code v
+unfolding answer_of
+refusal_is k code v r e z = rw (← e, z)
 
-pub value_is : (k code v x : ℕ) → k ≡ code → k ≡ 0 → x ≡ v → Value x ≡ number_of code v
-unfolding number_of
-value_is k code v x e z q = rw (← e, z, q)
-
-pub refusal_is : (k code v : ℕ) → k ≡ code → (k ≡ 0 → ⊥) → Refusal k ≡ number_of code v
-unfolding number_of
-refusal_is zero code v e n = absurd (n refl)
-refusal_is (suc k) code v e n = rw (← e)
-
-pub new_is : {A : Type 0} (k code : ℕ) (new old x : A) → k ≡ code → k ≡ 0 → x ≡ new → x ≡ unless_refused code new old
+pub new_is : {A : Type 0} (k code : Code) (u : Unit) (new old x : A) → k ≡ code → k ≡ Ok u → x ≡ new → x ≡ unless_refused code new old
 unfolding unless_refused
-new_is k code new old x e z q = rw (← e, z, q)
+new_is k code u new old x e z q = rw (← e, z, q)
 
-pub old_is : {A : Type 0} (k code : ℕ) (new old : A) → k ≡ code → (k ≡ 0 → ⊥) → old ≡ unless_refused code new old
+pub old_is : {A : Type 0} (k code : Code) (r : Refusal) (new old : A) → k ≡ code → k ≡ Err r → old ≡ unless_refused code new old
 unfolding unless_refused
-old_is zero code new old e n = absurd (n refl)
-old_is (suc k) code new old e n = rw (← e)
+old_is k code r new old e z = rw (← e, z)
 
-module _ {A : Type 0} (k code : ℕ) (old new x : A) where
-  pub leaves_done : k ≡ code → k ≡ 0 → x ≡ new → Leaves code old new x Done
-  leaves_done e z q = record { says = done_is k code e z; leaves = new_is k code new old x e z q }
+module _ {A : Type 0} (k code : Code) (old new x : A) where
+  pub leaves_done : (u : Unit) → k ≡ code → k ≡ Ok u → x ≡ new → Leaves code old new x (Ok tt)
+  leaves_done u e z q = record { says = sym z ∙ e; leaves = new_is k code u new old x e z q }
 
-  pub leaves_refused : k ≡ code → (k ≡ 0 → ⊥) → Leaves code old new old (Refused k)
-  leaves_refused e n = record { says = refused_is k code e n; leaves = old_is k code new old e n }
+  pub leaves_refused : (r : Refusal) → k ≡ code → k ≡ Err r → Leaves code old new old (Err r)
+  leaves_refused r e z = record { says = sym z ∙ e; leaves = old_is k code r new old e z }
 
   module _ {B : Type 0} (old₂ new₂ x₂ : B) where
-    pub both_done : k ≡ code → k ≡ 0 → x ≡ new → x₂ ≡ new₂ → LeavesBoth code old new x old₂ new₂ x₂ Done
-    both_done e z q q₂ = record { says = done_is k code e z; leaves = new_is k code new old x e z q; leaves₂ = new_is k code new₂ old₂ x₂ e z q₂ }
+    pub both_done : (u : Unit) → k ≡ code → k ≡ Ok u → x ≡ new → x₂ ≡ new₂ → LeavesBoth code old new x old₂ new₂ x₂ (Ok tt)
+    both_done u e z q q₂ = record { says = sym z ∙ e; leaves = new_is k code u new old x e z q; leaves₂ = new_is k code u new₂ old₂ x₂ e z q₂ }
 
-    pub both_refused : k ≡ code → (k ≡ 0 → ⊥) → LeavesBoth code old new old old₂ new₂ old₂ (Refused k)
-    both_refused e n = record { says = refused_is k code e n; leaves = old_is k code new old e n; leaves₂ = old_is k code new₂ old₂ e n }
+    pub both_refused : (r : Refusal) → k ≡ code → k ≡ Err r → LeavesBoth code old new old old₂ new₂ old₂ (Err r)
+    both_refused r e z = record { says = sym z ∙ e; leaves = old_is k code r new old e z; leaves₂ = old_is k code r new₂ old₂ e z }
 
-pub ruleset answers = (done_is, refused_is, value_is, refusal_is, leaves_done, leaves_refused, both_done, both_refused)
+pub ruleset answers = (value_is, refusal_is, leaves_done, leaves_refused, both_done, both_refused)

@@ -1,4 +1,5 @@
 -- The ways through the tests, as the code asks them.
+use Rattle.std.specs.Prelude.{Option, Some}
 use mathlib.Core.Path.{◌≡◌}
 use mathlib.Core.Bool.{Bool, true, false, ◌&&◌, ◌||◌}
 use mathlib.Core.List.{List}
@@ -7,8 +8,6 @@ use lib.Dec.{eqb}
 use Rattle.util.specs.Pick.{pick}
 use Rattle.le.specs.Le.{part}
 use Rattle.arch.specs.declared.VA.{VA}
-use Rattle.arch.specs.declared.Address.{Address}
-use Rattle.arch.specs.declared.Address.TheVariants.{Of}
 use Rattle.names.specs.Bytes.{are_same_bytes, UNDEF}
 use Rattle.refusal.specs.declared.Number.{Number}
 use Rattle.refusal.specs.declared.Number.TheVariants.{Value}
@@ -37,10 +36,10 @@ pub ruleset name_ways = (name_of_undef, name_in_file)
 
 -- ---- the tests of an answer that a call gave
 module _ (s : Section) where
-  pub grants_there : (p : ℕ) (x : Address) (a : VA) {r : Bool} → x ≡ Of a → r ≡ grants (record { va = a; permissions = p }) s → r ≡ grants_at p s x
+  pub grants_there : (p : ℕ) (x : Option VA) (a : VA) {r : Bool} → x ≡ Some a → r ≡ grants (record { va = a; permissions = p }) s → r ≡ grants_at p s x
   grants_there p x a e q = rw (e, q)
 
-  pub grants_by_address : (p : ℕ) (x y : Address) {r : Bool} → r ≡ grants_at p s x → x ≡ y → r ≡ grants_at p s y
+  pub grants_by_address : (p : ℕ) (x y : Option VA) {r : Bool} → r ≡ grants_at p s x → x ≡ y → r ≡ grants_at p s y
   grants_by_address p x y q e = rw (← e) q
 
   pub byte_there : (n : Number) (o : ℕ) {r : Bool} → n ≡ Value o → r ≡ file_holds o s → r ≡ has_byte s n

@@ -1,11 +1,9 @@
 -- What is asked of one record of the section table (01, "module.rs").
-use Rattle.std.specs.Prelude.{◌≡◌, Bool, false, ◌&&◌, ◌||◌, List, ℕ, ◌/◌, ◌%◌, leb, ltb, eqb}
+use Rattle.std.specs.Prelude.{◌≡◌, Bool, false, ◌&&◌, ◌||◌, List, ℕ, ◌/◌, ◌%◌, leb, ltb, eqb, None, Option, Some}
 use Rattle.std.proofs.Math.Bool.{and-false}
 use Rattle.util.specs.Pick.{pick}
 use Rattle.arch.specs.declared.VA.{VA}
 use Rattle.arch.specs.Address.{address_of}
-use Rattle.arch.specs.declared.Address.{Address}
-use Rattle.arch.specs.declared.Address.TheVariants.{Of, Past}
 use Rattle.le.specs.Le.{part}
 use Rattle.names.specs.Bytes.{are_same_bytes, UNDEF}
 use Rattle.refusal.specs.declared.Number.{Number}
@@ -49,9 +47,9 @@ abbrev pub grants : Probe → Section → Bool
 grants q s = holds q.va s && intersects s.permissions q.permissions
 
 -- the same at an address, which past 64 bits there is none of
-abbrev pub grants_at : ℕ → Section → Address → Bool
-grants_at p s (Of a) = grants (record { va = a; permissions = p }) s
-grants_at p s Past = false
+abbrev pub grants_at : ℕ → Section → Option VA → Bool
+grants_at p s (Some a) = grants (record { va = a; permissions = p }) s
+grants_at p s None = false
 
 -- and at an offset from the base
 abbrev pub grants_offset : OffsetProbe → Section → Bool

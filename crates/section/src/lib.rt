@@ -15,7 +15,7 @@ ghost use Rattle.section.specs.Section.{
   grants_offset,
 };
 
-use arch::{Address, RVA, VA};
+use arch::{RVA, VA};
 use refusal::Number;
 
 // A record of the section table: its range in memory, its range in the file, read 1, write 2 and execute 4 added,
@@ -118,18 +118,18 @@ pub fn grants(s: Section, q: Probe) -> bool
 }
 
 // The same at an address that may lie past 64 bits, where nothing is granted.
-fn grants_at(s: Section, a: Address, permissions: u64) -> bool
+fn grants_at(s: Section, a: Option<VA>, permissions: u64) -> bool
     ensures { result ≡ grants_at permissions s a }
 {
     match a {
-        Address::Of(va) => {
+        Some(va) => {
             let q = Probe {
                 va: va,
                 permissions: permissions,
             };
             grants(s, q)
         }
-        Address::Past => false,
+        None => false,
     }
 }
 

@@ -1,4 +1,5 @@
 -- The ways through the code. Assumes nothing.
+use Rattle.std.specs.Prelude.{None, Option, Some}
 use mathlib.Core.Path.{◌≡◌, refl, sym, ap, ◌∙◌}
 use mathlib.Core.Bool.{Bool, true, false, ◌&&◌, ◌||◌, not}
 use mathlib.Core.List.{List, [], ◌∷◌}
@@ -17,8 +18,6 @@ use Rattle.object.specs.declared.Header.{Header}
 use Rattle.object.specs.Format.{LONG_OFFSET_AT, LENGTH_SIZE, string_table, string_length, section_header_at, symbol_record_at}
 use Rattle.names.specs.declared.Name.{Name}
 use Rattle.names.specs.declared.Name.TheVariants.{Good, Bad}
-use Rattle.names.specs.declared.Digits.{Digits}
-use Rattle.names.specs.declared.Digits.TheVariants as digits
 use Rattle.names.specs.Name.{SLASH, slash_offset, is_good}
 use Rattle.stops.specs.Stops.{strings, skip_to, skip, TAILS, BLOCK, blocks_of, block_stop, stop_words, stop_count, stops_of, stop_behind, stop_by}
 use Rattle.stops.specs.StopLaws.{skip_least, past_tail, Serves, serves_none, serves_next, stop_low}
@@ -202,11 +201,11 @@ module _ (f : List ℕ) (h : Header) (stops : List ℕ) {r : Name} where
   unfolding symbol_name_by pick
   symbol_short j at x a e z p = let y : eqb (get 4 f (symbol_record_at h j)) 0 ≡ false = rw (← a, ← e) z in rw y (rw a at p)
 
-  pub slash_long : (d : Digits) (o : ℕ) → d ≡ digits.Offset o → r ≡ long_by f h stops true o → r ≡ slash_name_by f h stops d
+  pub slash_long : (d : Option ℕ) (o : ℕ) → d ≡ Some o → r ≡ long_by f h stops true o → r ≡ slash_name_by f h stops d
   unfolding slash_name_by
   slash_long d o e p = rw e p
 
-  pub section_slash : (i at b : ℕ) (d : Digits) → at ≡ section_header_at h i → b ≡ get_or f at 0 → eqb b SLASH ≡ true → d ≡ slash_offset f (section_header_at h i) → r ≡ slash_name_by f h stops d → r ≡ section_name_by f h stops i
+  pub section_slash : (i at b : ℕ) (d : Option ℕ) → at ≡ section_header_at h i → b ≡ get_or f at 0 → eqb b SLASH ≡ true → d ≡ slash_offset f (section_header_at h i) → r ≡ slash_name_by f h stops d → r ≡ section_name_by f h stops i
   unfolding section_name_by pick
   section_slash i at b d a e z q p = let y : eqb (get_or f (section_header_at h i) 0) SLASH ≡ true = rw (← a, ← e) z in rw (y, ← q) p
 
@@ -214,7 +213,7 @@ module _ (f : List ℕ) (h : Header) (stops : List ℕ) {r : Name} where
   unfolding section_name_by pick
   section_short i at b a e z p = let y : eqb (get_or f (section_header_at h i) 0) SLASH ≡ false = rw (← a, ← e) z in rw y (rw a at p)
 
-pub slash_bad : (f : List ℕ) (h : Header) (stops : List ℕ) (d : Digits) → d ≡ digits.Bad → Bad ≡ slash_name_by f h stops d
+pub slash_bad : (f : List ℕ) (h : Header) (stops : List ℕ) (d : Option ℕ) → d ≡ None → Bad ≡ slash_name_by f h stops d
 unfolding slash_name_by
 slash_bad f h stops d e = rw e
 
@@ -232,17 +231,17 @@ module _ (f : List ℕ) (h : Header) (stops : List ℕ) {r : Bool} where
   pub symbol_short_test : (j at x : ℕ) → at ≡ symbol_record_at h j → x ≡ get 4 f at → eqb x 0 ≡ false → r ≡ is_good (field_by f false at) → r ≡ is_good (symbol_name_by f h stops j)
   symbol_short_test j at x a e z p = p ∙ ap is_good (symbol_short f h stops j at x a e z refl)
 
-  pub slash_long_test : (d : Digits) (o : ℕ) → d ≡ digits.Offset o → r ≡ is_good (long_by f h stops true o) → r ≡ is_good (slash_name_by f h stops d)
+  pub slash_long_test : (d : Option ℕ) (o : ℕ) → d ≡ Some o → r ≡ is_good (long_by f h stops true o) → r ≡ is_good (slash_name_by f h stops d)
   slash_long_test d o e p = p ∙ ap is_good (slash_long f h stops d o e refl)
 
-  pub section_slash_test : (i at b : ℕ) (d : Digits) → at ≡ section_header_at h i → b ≡ get_or f at 0 → eqb b SLASH ≡ true → d ≡ slash_offset f (section_header_at h i) → r ≡ is_good (slash_name_by f h stops d)
+  pub section_slash_test : (i at b : ℕ) (d : Option ℕ) → at ≡ section_header_at h i → b ≡ get_or f at 0 → eqb b SLASH ≡ true → d ≡ slash_offset f (section_header_at h i) → r ≡ is_good (slash_name_by f h stops d)
       → r ≡ is_good (section_name_by f h stops i)
   section_slash_test i at b d a e z q p = p ∙ ap is_good (section_slash f h stops i at b d a e z q refl)
 
   pub section_short_test : (i at b : ℕ) → at ≡ section_header_at h i → b ≡ get_or f at 0 → eqb b SLASH ≡ false → r ≡ is_good (field_by f true at) → r ≡ is_good (section_name_by f h stops i)
   section_short_test i at b a e z p = p ∙ ap is_good (section_short f h stops i at b a e z refl)
 
-pub slash_bad_test : (f : List ℕ) (h : Header) (stops : List ℕ) (d : Digits) → d ≡ digits.Bad → false ≡ is_good (slash_name_by f h stops d)
+pub slash_bad_test : (f : List ℕ) (h : Header) (stops : List ℕ) (d : Option ℕ) → d ≡ None → false ≡ is_good (slash_name_by f h stops d)
 slash_bad_test f h stops d e = ap is_good (slash_bad f h stops d e)
 
 pub ruleset name_tests = (symbol_long_test, symbol_short_test, slash_long_test, slash_bad_test, section_slash_test, section_short_test)

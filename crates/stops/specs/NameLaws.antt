@@ -1,5 +1,5 @@
 -- A name by the noted stops is the one that the rule says. Assumes nothing.
-use Rattle.std.specs.Prelude.{◌≡◌, Bool, ◌&&◌, ◌||◌, not, List, ℕ, ◌+◌, ◌-◌, ◌≤◌, ◌<◌, length, get_or, replicate, leb}
+use Rattle.std.specs.Prelude.{◌≡◌, Bool, ◌&&◌, ◌||◌, not, List, ℕ, ◌+◌, ◌-◌, ◌≤◌, ◌<◌, length, get_or, replicate, leb, None, Option, Some}
 use Rattle.std.proofs.Math.Path.{refl, sym, ap}
 use Rattle.std.proofs.Common.{◌∙◌, inl, inr, arith, drop-drop}
 use Rattle.std.proofs.Math.Bool.{true, false}
@@ -18,8 +18,6 @@ use Rattle.chars.specs.GoodLaws.{section_walk, symbol_walk}
 use Rattle.object.specs.declared.Header.{Header}
 use Rattle.object.specs.Format.{NAME_SIZE, LONG_OFFSET_AT, LENGTH_SIZE, string_table, string_length, section_header_at, symbol_record_at}
 use Rattle.names.specs.declared.Name.TheVariants.{Good, Bad}
-use Rattle.names.specs.declared.Digits.{Digits}
-use Rattle.names.specs.declared.Digits.TheVariants as digits
 use Rattle.names.specs.Bytes.{run}
 use Rattle.names.specs.Name.{short_run, long_run, symbol_run, section_run, SLASH, slash_offset, slash_by, checked, section_name, symbol_name}
 use Rattle.names.specs.NameLaws.{run_most, run_zero, run_before, run_long}
@@ -296,10 +294,10 @@ module _ (f : List ℕ) (h : Header) (stops : List ℕ) where
   long_by_lem : (section : Bool) → stops ≡ stops_of section f h → (o : ℕ) → long_by f h stops section o ≡ checked (good_by section) f (long_run f h o)
   long_by_lem section words o = ap (long_to f h section o) (stop_noted section (strings f h) stops (stop_count f h) o words) ∙ long_is section f h o
 
-  slash_by_lem : stops ≡ stops_of true f h → (d : Digits) → slash_name_by f h stops d ≡ checked good_section_name f (slash_by f h d)
+  slash_by_lem : stops ≡ stops_of true f h → (d : Option ℕ) → slash_name_by f h stops d ≡ checked good_section_name f (slash_by f h d)
   unfolding slash_name_by slash_by checked good_by
-  slash_by_lem words (digits.Offset o) = long_by_lem true words o
-  slash_by_lem words digits.Bad = refl
+  slash_by_lem words (Some o) = long_by_lem true words o
+  slash_by_lem words None = refl
 
   -- the name of symbol j is the rule's
   pub symbol_name_is : stops ≡ stops_of false f h → (j : ℕ) → symbol_name_by f h stops j ≡ symbol_name f h j

@@ -1,5 +1,5 @@
 -- Names by the noted stops. With the words of the file itself they are those of the rule (`NameLaws`). `section` says whose name it is: a section's may be empty.
-use Rattle.std.specs.Prelude.{Bool, true, false, ◌&&◌, ◌||◌, List, ℕ, ◌+◌, ◌-◌, ltb, leb, eqb, get_or}
+use Rattle.std.specs.Prelude.{Bool, true, false, ◌&&◌, ◌||◌, List, ℕ, ◌+◌, ◌-◌, ltb, leb, eqb, get_or, None, Option, Some}
 use Rattle.util.specs.Pick.{pick}
 use Rattle.le.specs.Le.{get, part}
 use Rattle.chars.specs.Chars.{stop}
@@ -7,8 +7,6 @@ use Rattle.object.specs.declared.Header.{Header}
 use Rattle.object.specs.Format.{NAME_SIZE, LONG_OFFSET_AT, LENGTH_SIZE, section_header_at, symbol_record_at, string_table, string_length}
 use Rattle.names.specs.declared.Name.{Name}
 use Rattle.names.specs.declared.Name.TheVariants.{Good, Bad}
-use Rattle.names.specs.declared.Digits.{Digits}
-use Rattle.names.specs.declared.Digits.TheVariants as digits
 use Rattle.names.specs.Name.{SLASH, slash_offset}
 use Rattle.stops.specs.Stops.{strings, stop_by}
 
@@ -47,9 +45,9 @@ symbol_name_by f h stops j =
     (field_by f false (symbol_record_at h j))
 
 -- a section's that begins with a slash, by its digits
-unfoldable pub slash_name_by : List ℕ → Header → List ℕ → Digits → Name
-slash_name_by f h stops (digits.Offset o) = long_by f h stops true o
-slash_name_by f h stops digits.Bad = Bad
+unfoldable pub slash_name_by : List ℕ → Header → List ℕ → Option ℕ → Name
+slash_name_by f h stops (Some o) = long_by f h stops true o
+slash_name_by f h stops None = Bad
 
 -- the name of section i
 unfoldable pub section_name_by : List ℕ → Header → List ℕ → ℕ → Name

@@ -9,7 +9,7 @@ ghost use Rattle.stops.specs.Stops.{BLOCK, strings, skip, blocks_of, block_stop,
 ghost use Rattle.stops.specs.StopLaws.{Serves};
 ghost use Rattle.stops.specs.Names.{may_end, field, field_ends, field_by, long_by, slash_name_by, symbol_name_by, section_name_by};
 
-use names::{Digits, Name};
+use names::Name;
 use object::Header;
 
 // The bytes of a block.
@@ -156,16 +156,19 @@ fn long_ok(f: &[u8], h: Header, stops: &[u32], section: bool, o: usize) -> bool
 }
 
 // The long name at o.
-fn long_name(f: &[u8], h: Header, stops: &[u32], section: bool, o: usize) -> Name
+fn long_name(f: &[u8], h: Header, stops: &[u32], section: bool, o: usize) -> Option<Name>
     ensures { result ≡ long_by f.now h stops.now section o }
 {
     let t = strings(f, h);
     let length = object::string_length(f, h);
     let s = stop_by(t, section, stops, o);
     if may_end(t, length as usize, section, o, s) {
-        Name::Good(object::string_table(h) + o, s - o)
+        Some(Name {
+            at: object::string_table(h) + o,
+            length: s - o,
+        })
     } else {
-        Name::Bad
+        None
     }
 }
 
@@ -192,15 +195,15 @@ fn field_ok(f: &[u8], section: bool, at: usize) -> bool
 }
 
 // The name in the field at `at`.
-fn field_name(f: &[u8], section: bool, at: usize) -> Name
+fn field_name(f: &[u8], section: bool, at: usize) -> Option<Name>
     ensures { result ≡ field_by f.now section at }
 {
     let t = field(f, at);
     let s = chars::stop_short(t, section);
     if field_ends(t, section, s) {
-        Name::Good(at, s)
+        Some(Name { at, length: s })
     } else {
-        Name::Bad
+        None
     }
 }
 
@@ -219,7 +222,7 @@ pub fn symbol_ok(f: &[u8], h: Header, stops: &[u32], j: u32) -> bool
 }
 
 // The name of symbol j.
-pub fn symbol_name(f: &[u8], h: Header, stops: &[u32], j: u32) -> Name
+pub fn symbol_name(f: &[u8], h: Header, stops: &[u32], j: u32) -> Option<Name>
     ensures { result ≡ symbol_name_by f.now h stops.now j }
 {
     let at = object::symbol_record_at(h, j);
@@ -232,12 +235,12 @@ pub fn symbol_name(f: &[u8], h: Header, stops: &[u32], j: u32) -> Name
     }
 }
 
-fn slash_ok(f: &[u8], h: Header, stops: &[u32], d: Digits) -> bool
+fn slash_ok(f: &[u8], h: Header, stops: &[u32], d: Option<u64>) -> bool
     ensures { result ≡ is_good (slash_name_by f.now h stops.now d) }
 {
     match d {
-        Digits::Offset(o) => long_ok(f, h, stops, true, o as usize),
-        Digits::Bad => false,
+        Some(o) => long_ok(f, h, stops, true, o as usize),
+        None => false,
     }
 }
 
@@ -254,17 +257,17 @@ pub fn section_ok(f: &[u8], h: Header, stops: &[u32], i: u32) -> bool
     }
 }
 
-fn slash_name(f: &[u8], h: Header, stops: &[u32], d: Digits) -> Name
+fn slash_name(f: &[u8], h: Header, stops: &[u32], d: Option<u64>) -> Option<Name>
     ensures { result ≡ slash_name_by f.now h stops.now d }
 {
     match d {
-        Digits::Offset(o) => long_name(f, h, stops, true, o as usize),
-        Digits::Bad => Name::Bad,
+        Some(o) => long_name(f, h, stops, true, o as usize),
+        None => None,
     }
 }
 
 // The name of section i.
-pub fn section_name(f: &[u8], h: Header, stops: &[u32], i: u32) -> Name
+pub fn section_name(f: &[u8], h: Header, stops: &[u32], i: u32) -> Option<Name>
     ensures { result ≡ section_name_by f.now h stops.now i }
 {
     let at = object::section_header_at(h, i);

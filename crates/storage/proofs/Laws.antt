@@ -1,4 +1,5 @@
 -- The ways through the code. Assumes nothing.
+use Rattle.std.specs.Prelude.{Option}
 use mathlib.Core.Path.{◌≡◌}
 use mathlib.Core.List.{List}
 use Prim.Native.Nat.{ℕ, ◌%◌, ◌^◌}
@@ -9,7 +10,6 @@ use Rattle.arch.specs.Machine.{arch_of, arch_by}
 use Rattle.arch.specs.Address.{rva}
 use Rattle.arch.specs.declared.Arch.{Arch}
 use Rattle.arch.specs.declared.RVA.{RVA}
-use Rattle.arch.specs.declared.Offset.{Offset}
 use Rattle.object.specs.declared.Header.{Header}
 use Rattle.object.specs.Format.{header_of}
 use Rattle.object.specs.Section.{relocation_count}
@@ -28,12 +28,12 @@ use Rattle.storage.specs.Storage.{storage, stored_by, stored, Known}
 use Rattle.storage.specs.Writing.{LayoutIs, NamesAre}
 
 -- ---- the parts that are written
-module _ (f : List ℕ) (h : Header) (base : ℕ) (home : ℕ → Offset) (undef pages n : ℕ) (s s' i i' m m' : List ℕ) where
+module _ (f : List ℕ) (h : Header) (base : ℕ) (home : ℕ → Option RVA) (undef pages n : ℕ) (s s' i i' m m' : List ℕ) where
   pub laid_is : s' ≡ splice s 0 (section_table f h base home undef) → i' ≡ laid f h home pages base undef n i → m' ≡ splice m 0 (mark_bytes pages (words_for pages))
       → LayoutIs f h base home undef pages n s s' i i' m m'
   laid_is x y z = record { sections = x; image = y; marks = z }
 
-module _ (f : List ℕ) (h : Header) (base : ℕ) (home : ℕ → Offset) (row : ℕ → ℕ) (undef n : ℕ) (slots y y' e e' : List ℕ) where
+module _ (f : List ℕ) (h : Header) (base : ℕ) (home : ℕ → Option RVA) (row : ℕ → ℕ) (undef n : ℕ) (slots y y' e e' : List ℕ) where
   pub listed_is : y' ≡ splice y 0 (symbol_table f h base home row) → e' ≡ splice e 0 (extern_table f h base undef slots n) → NamesAre f h base home row undef n slots y y' e e'
   listed_is p q = record { symbols = p; externs = q }
 

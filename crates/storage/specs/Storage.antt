@@ -1,8 +1,8 @@
 -- The lent storage, and what a load leaves in it (01, "Load").
-use Rattle.std.specs.Prelude.{◌≡◌, List, ℕ, ◌≤◌, length}
+use Rattle.arch.specs.declared.RVA.{RVA}
+use Rattle.std.specs.Prelude.{◌≡◌, List, ℕ, ◌≤◌, length, Option}
 use Rattle.limits.specs.Limits.{MAX_PAGES, MAX_EXTERNS}
 use Rattle.le.specs.Le.{splice}
-use Rattle.arch.specs.declared.Offset.{Offset}
 use Rattle.object.specs.declared.Header.{Header}
 use Rattle.object.specs.Section.{relocation_count}
 use Rattle.layout.specs.Layout.{undef_start, mapped_pages}
@@ -36,7 +36,7 @@ storage image marks sections symbols externs fixups skips =
 
 -- ---- what is written: `home` says where a section's home starts, `row` which record it is, `slots` has the extern names' symbols, `target` says what each
 -- symbol comes to
-module _ (f : List ℕ) (h : Header) (base : ℕ) (home : ℕ → Offset) (row : ℕ → ℕ) (slots : List ℕ) (target : ℕ → Target) where
+module _ (f : List ℕ) (h : Header) (base : ℕ) (home : ℕ → Option RVA) (row : ℕ → ℕ) (slots : List ℕ) (target : ℕ → Target) where
   -- the storage with the counted parts written; behind them it is as it was
   unfoldable pub stored_by : Storage → Storage
   stored_by s =

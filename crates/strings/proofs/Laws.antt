@@ -1,4 +1,5 @@
 -- The ways through the strings. Assumes nothing.
+use Rattle.std.specs.Prelude.{None, Option, Some}
 use mathlib.Core.Path.{◌≡◌, refl, sym, ap, ◌∙◌}
 use mathlib.Core.Bool.{Bool, true, false, ◌&&◌, ◌||◌, and-false}
 use mathlib.Core.List.{List, []}
@@ -8,8 +9,6 @@ use lib.Dec.{leb, ltb, eqb}
 use lib.ListN.{length, get_or}
 use Rattle.util.specs.Pick.{pick}
 use Rattle.arch.specs.declared.RVA.{RVA}
-use Rattle.arch.specs.declared.Offset.{Offset}
-use Rattle.arch.specs.declared.Offset.TheVariants.{At, None}
 use Rattle.arch.specs.Address.{rva, offset_of, offset_plus}
 use Rattle.le.specs.Le.{part}
 use Rattle.refusal.specs.Refusal.{NOT_MAPPED, STORAGE}
@@ -80,32 +79,32 @@ pub ruleset unmappeds = (unmapped_yes, unmapped_no)
 
 -- ---- an address or a sum that is an offset, or none
 module _ (image marks : List ℕ) (minimum : ℕ) where
-  abbrev found : Offset → Ascii
-  found (At o) = ascii_of image marks o.0 minimum
+  abbrev found : Option RVA → Ascii
+  found (Some o) = ascii_of image marks o.0 minimum
   found None = Refused (pick (storage_ok (length image) (length marks)) NOT_MAPPED STORAGE)
 
-  found_one : (t : Bool) (o : ℕ) → found (pick t (At (rva o)) None) ≡ pick t (found (At (rva o))) (found None)
+  found_one : (t : Bool) (o : ℕ) → found (pick t (Some (rva o)) None) ≡ pick t (found (Some (rva o))) (found None)
   unfolding pick
   found_one true o = refl
   found_one false o = refl
 
-  module _ (x : Offset) (base a : ℕ) (e : x ≡ offset_of base a) where
+  module _ (x : Option RVA) (base a : ℕ) (e : x ≡ offset_of base a) where
     by_address : found x ≡ ascii_at image marks base a minimum
     unfolding ascii_at offset_of
     by_address = rw e (found_one (leb base a) (a - base))
 
-    pub address_found : (o : RVA) (r : Ascii) → x ≡ At o → r ≡ ascii_of image marks o.0 minimum → r ≡ ascii_at image marks base a minimum
+    pub address_found : (o : RVA) (r : Ascii) → x ≡ Some o → r ≡ ascii_of image marks o.0 minimum → r ≡ ascii_at image marks base a minimum
     address_found o r d q = q ∙ rw d at by_address
 
     pub address_none : (k : ℕ) → x ≡ None → k ≡ pick (storage_ok (length image) (length marks)) NOT_MAPPED STORAGE → Refused k ≡ ascii_at image marks base a minimum
     address_none k d q = ap Refused q ∙ rw d at by_address
 
-  module _ (x : Offset) (start offset : ℕ) (e : x ≡ offset_plus start offset) where
+  module _ (x : Option RVA) (start offset : ℕ) (e : x ≡ offset_plus start offset) where
     by_start : found x ≡ ascii_from image marks start offset minimum
     unfolding ascii_from offset_plus
     by_start = rw e (found_one (ltb (start + offset) (2 ^ 64)) (start + offset))
 
-    pub start_found : (o : RVA) (r : Ascii) → x ≡ At o → r ≡ ascii_of image marks o.0 minimum → r ≡ ascii_from image marks start offset minimum
+    pub start_found : (o : RVA) (r : Ascii) → x ≡ Some o → r ≡ ascii_of image marks o.0 minimum → r ≡ ascii_from image marks start offset minimum
     start_found o r d q = q ∙ rw d at by_start
 
     pub start_none : (k : ℕ) → x ≡ None → k ≡ pick (storage_ok (length image) (length marks)) NOT_MAPPED STORAGE → Refused k ≡ ascii_from image marks start offset minimum

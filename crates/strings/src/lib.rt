@@ -7,7 +7,7 @@ ghost use Rattle.refusal.specs.Refusal.{STORAGE, NOT_MAPPED};
 ghost use Rattle.pagemap.specs.Pages.{storage_ok};
 ghost use Rattle.strings.specs.Ascii.{is_text, text_length, ascii_of, ascii_at, ascii_from, text_of};
 
-use arch::{Offset, RVA, VA};
+use arch::{RVA, VA};
 use refusal::{NOT_MAPPED, STORAGE};
 
 // Where a string starts and how long it is; or it is shorter than was asked for; or refused.
@@ -86,8 +86,8 @@ pub fn read_ascii_at(
     ensures { result ≡ ascii_at image.now marks.now base.0 address.0 minimum_length }
 {
     match address.offset(base) {
-        Offset::At(offset) => read_ascii(image, marks, offset, minimum_length),
-        Offset::None => Ascii::Refused(unmapped(image.len() as u64, marks.len() as u64)),
+        Some(offset) => read_ascii(image, marks, offset, minimum_length),
+        None => Ascii::Refused(unmapped(image.len() as u64, marks.len() as u64)),
     }
 }
 
@@ -102,8 +102,8 @@ pub fn read_ascii_from(
     ensures { result ≡ ascii_from image.now marks.now start.0 offset.0 minimum_length }
 {
     match start.plus(offset) {
-        Offset::At(at) => read_ascii(image, marks, at, minimum_length),
-        Offset::None => Ascii::Refused(unmapped(image.len() as u64, marks.len() as u64)),
+        Some(at) => read_ascii(image, marks, at, minimum_length),
+        None => Ascii::Refused(unmapped(image.len() as u64, marks.len() as u64)),
     }
 }
 

@@ -1,4 +1,5 @@
 -- The ways through the code. Assumes nothing.
+use Rattle.std.specs.Prelude.{Option}
 use mathlib.Core.Path.{◌≡◌, refl, sym, ap, ◌∙◌}
 use mathlib.Core.Bool.{Bool, true, false, not, ◌&&◌}
 use mathlib.Core.List.{List, [], ◌∷◌, ◌++◌}
@@ -14,7 +15,6 @@ use Rattle.util.specs.Pick.{pick, yes_no, flag_yes, flag_no}
 use Rattle.le.specs.Le.{splice}
 use Rattle.codes.specs.Code.{codes_to}
 use Rattle.arch.specs.declared.Arch.{Arch}
-use Rattle.arch.specs.declared.Offset.{Offset}
 use Rattle.arch.specs.declared.RVA.{RVA}
 use Rattle.arch.specs.Address.{rva}
 use Rattle.arch.specs.Machine.{arch_of, arch_by}
@@ -62,7 +62,7 @@ counts_of h t pages sections symbols n relocations =
       relocations = relocations;
     }
 
-pub counts_are : (f : List ℕ) (h : Header) (home : ℕ → Offset) (n p s y r : ℕ) (u : RVA) (t : Tally) → p ≡ pages_to u.0 → s ≡ table_records f h → y ≡ listed_total f h home → r ≡ relocation_total f h → u ≡ rva (undef_start f h) → counts_of h t p s y n r ≡ counts_by f h home n t
+pub counts_are : (f : List ℕ) (h : Header) (home : ℕ → Option RVA) (n p s y r : ℕ) (u : RVA) (t : Tally) → p ≡ pages_to u.0 → s ≡ table_records f h → y ≡ listed_total f h home → r ≡ relocation_total f h → u ≡ rva (undef_start f h) → counts_of h t p s y n r ≡ counts_by f h home n t
 unfolding counts_by
 counts_are f h home n p s y r u t a b c d e = rw (a, e, b, c, d)
 
@@ -111,7 +111,7 @@ module _ (f : List ℕ) (h : Header) (b : Bool) (u : RVA) (q : b ≡ leb (pages_
   unfolding pick
   behind_no s e start = rw (← pages_are f h b u q start, e)
 
-  pub planned_yes : (home : ℕ → Offset) (target : ℕ → Target) (n : ℕ) (x : Survey) → b ≡ true
+  pub planned_yes : (home : ℕ → Option RVA) (target : ℕ → Target) (n : ℕ) (x : Survey) → b ≡ true
       → (mapped_pages f h ≤ MAX_PAGES → u ≡ rva (undef_start f h) → x ≡ targets_answer f h home target n) → u ≡ rva (undef_start f h) → x ≡ planned_by f h home target n
   planned_yes home target n x e d start = behind_yes x (targets_answer f h home target n) e start (d (pages_few f h b u q start e) start)
 
@@ -224,7 +224,7 @@ module _ (f : List ℕ) (h : Header) (code : ℕ) (is : code ≡ first_failed (e
 pub ruleset whole = (few_records_lem, survey_yes, survey_no)
 
 -- ---- the answer by a tally and counts, which are known where UNDEF starts there
-pub targets_by : (f : List ℕ) (h : Header) (home : ℕ → Offset) (target : ℕ → Target) (n : ℕ) (u : RVA) (t : Tally) (c : Counts) {r : Survey}
+pub targets_by : (f : List ℕ) (h : Header) (home : ℕ → Option RVA) (target : ℕ → Target) (n : ℕ) (u : RVA) (t : Tally) (c : Counts) {r : Survey}
     → r ≡ answer_by (first_failed (target_checks t)) c → (u ≡ rva (undef_start f h) → c ≡ counts_by f h home n t)
     → (mapped_pages f h ≤ MAX_PAGES → u ≡ rva (undef_start f h) → t ≡ tally_by f h home target)
     → mapped_pages f h ≤ MAX_PAGES → u ≡ rva (undef_start f h) → r ≡ targets_answer f h home target n

@@ -1,5 +1,5 @@
 -- What acceptance gives: of every file that survey accepts, as the small object is (`demands: Table`).
-use Rattle.std.specs.Prelude.{◌≡◌, refl, false, not, List, ◌++◌, ◌⊎◌, ℕ, ◌+◌, ◌*◌, ◌/◌, ◌≤◌, ◌<◌, ◌^◌, ltb, length, get_or}
+use Rattle.std.specs.Prelude.{◌≡◌, refl, false, not, List, ◌++◌, ◌⊎◌, ℕ, ◌+◌, ◌*◌, ◌/◌, ◌≤◌, ◌<◌, ◌^◌, ltb, length, get_or, Some}
 use Rattle.std.proofs.Math.Bool.{true}
 use Rattle.std.proofs.Common.{inl, inr, ⊎_elim, arith}
 use borrow.Author.Tests.{leb-true, not-false, ltb-true, lt-leb, eqb-true}
@@ -16,7 +16,6 @@ use Rattle.homes.specs.HomeLaws.{loaded_home, section_most}
 use Rattle.limits.specs.Limits.{MAX_PAGES, MAX_EXTERNS, SLOT_SIZE}
 use Rattle.arch.specs.Address.{rva}
 use Rattle.arch.specs.Page.{PAGE_SIZE}
-use Rattle.externs.specs.declared.Found.TheVariants.{Index}
 use Rattle.rules.specs.declared.Rule.TheVariants as rules
 use Rattle.codes.specs.Code.{symbol_rule}
 use Rattle.codes.specs.Puts.{puts_by, puts}
@@ -158,7 +157,7 @@ module _ (f : List ℕ) (c : Counts) (accepted : survey_of f ≡ Accepted c) whe
   pub record SlotAt (name : List ℕ) : Type 0 where
     pub index : ℕ
     pub inside : index < length (externs f header)
-    pub found : slot_of f header (externs f header) name ≡ Index index
+    pub found : slot_of f header (externs f header) name ≡ Some index
 
   pub puts_a_slot : (i k : ℕ) → i < header.sections → k < count i → puts f header (relocation_symbol f header i k) ≡ true → SlotAt (symbol_text f header (relocation_symbol f header i k))
   puts_a_slot i k a b t =
@@ -176,7 +175,7 @@ module _ (f : List ℕ) (c : Counts) (accepted : survey_of f ≡ Accepted c) whe
   unfolding puts puts_by
   puts_extern j own e = rw (own, e)
 
-  extern_target : (j e : ℕ) → is_symbol f header j ≡ true → symbol_rule f header j ≡ rules.Extern → slot_of f header (externs f header) (symbol_text f header j) ≡ Index e
+  extern_target : (j e : ℕ) → is_symbol f header j ≡ true → symbol_rule f header j ≡ rules.Extern → slot_of f header (externs f header) (symbol_text f header j) ≡ Some e
       → targets f header j ≡ target.Slot (rva (undef_start f header + SLOT_SIZE * e))
   unfolding target_of rule_target slot_target is_symbol pick
   extern_target j e own r q =
@@ -191,7 +190,7 @@ module _ (f : List ℕ) (c : Counts) (accepted : survey_of f ≡ Accepted c) whe
       record { index = s.index; inside = s.inside; is = extern_target (relocation_symbol f header i k) s.index own e s.found }
 
   -- no slot is past UNDEF's page
-  slots_few : (name : List ℕ) (e : ℕ) → slot_of f header (externs f header) name ≡ Index e → e < MAX_EXTERNS
+  slots_few : (name : List ℕ) (e : ℕ) → slot_of f header (externs f header) name ≡ Some e → e < MAX_EXTERNS
   slots_few name e q = let i = slot_inside f header name (externs f header) e q in let m = names_few in omega arith
 
   -- ---- every fixup of the fix list: its value is exact at every base that load takes, and its bytes are mapped

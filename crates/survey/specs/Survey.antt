@@ -1,9 +1,8 @@
 -- Survey: the counts, or the first refusal that applies (01, "Survey"). The checks stand in one list, in 01's order; each is over the whole file.
-use Rattle.std.specs.Prelude.{Bool, List, [], ◌∷◌, ◌++◌, ℕ, leb, eqb, length}
+use Rattle.arch.specs.declared.RVA.{RVA}
+use Rattle.std.specs.Prelude.{Bool, List, [], ◌∷◌, ◌++◌, ℕ, leb, eqb, length, Option, None}
 use Rattle.refusal.specs.Refusal.{FILE_SIZE, SECTION_TABLE, SYMBOL_TABLE, SECTION_DATA, SECTION_NUMBER, PAGES, PLACE}
 use Rattle.util.specs.Pick.{pick}
-use Rattle.arch.specs.declared.Offset.{Offset}
-use Rattle.arch.specs.declared.Machine.TheVariants.{Unknown}
 use Rattle.arch.specs.Machine.{arch_of, arch_by, machine_refusal}
 use Rattle.object.specs.declared.Header.{Header}
 use Rattle.object.specs.Format.{header_of}
@@ -49,7 +48,7 @@ first_failed (c ∷ cs) = pick c.passes (first_failed cs) c.number
 abbrev pub early_checks : List ℕ → Header → List Check
 early_checks f h =
     check (size_ok f) FILE_SIZE
-    ∷ check (machine_ok h) (machine_refusal Unknown)
+    ∷ check (machine_ok h) (machine_refusal None)
     ∷ check (section_table_ok f h) SECTION_TABLE
     ∷ check (symbol_table_ok f h) SYMBOL_TABLE
     ∷ check (sections_ok f h) SECTION_DATA
@@ -74,7 +73,7 @@ abbrev pub target_checks : Tally → List Check
 target_checks t = check (eqb t.refused 0) (outcome_refusal fixups.Refused) ∷ check (eqb t.outside 0) PLACE ∷ []
 
 -- ---- what the relocations come to: `home` says where a section's home starts, `target` what each number of a symbol comes to
-module _ (f : List ℕ) (h : Header) (home : ℕ → Offset) (target : ℕ → Target) where
+module _ (f : List ℕ) (h : Header) (home : ℕ → Option RVA) (target : ℕ → Target) where
   -- of relocation k of section i
   abbrev pub outcomes_by : ℕ → ℕ → Outcome
   outcomes_by = outcome (arch_by (arch_of h.machine)) f h home target
@@ -84,7 +83,7 @@ module _ (f : List ℕ) (h : Header) (home : ℕ → Offset) (target : ℕ → T
   tally_by = tally_of (mapped_pages f h) outcomes_by (relocation_count f h) h.sections
 
 -- the counts, with n extern names and the tally t
-unfoldable pub counts_by : List ℕ → Header → (ℕ → Offset) → ℕ → Tally → Counts
+unfoldable pub counts_by : List ℕ → Header → (ℕ → Option RVA) → ℕ → Tally → Counts
 counts_by f h home n t =
     record {
       pages = mapped_pages f h;

@@ -1,8 +1,8 @@
 -- What the parts of survey promise and ask.
-use Rattle.std.specs.Prelude.{◌≡◌, Bool, ◌&&◌, List, ◌++◌, ℕ, ◌≤◌, leb, length, replicate}
+use Rattle.arch.specs.declared.RVA.{RVA}
+use Rattle.std.specs.Prelude.{◌≡◌, Bool, ◌&&◌, List, ◌++◌, ℕ, ◌≤◌, leb, length, replicate, Option}
 use Rattle.util.specs.Pick.{pick}
 use Rattle.le.specs.Le.{splice}
-use Rattle.arch.specs.declared.Offset.{Offset}
 use Rattle.object.specs.declared.Header.{Header}
 use Rattle.layout.specs.Layout.{undef_start, mapped_pages}
 use Rattle.homes.specs.Home.{homes_to, home_in}
@@ -29,7 +29,7 @@ abbrev pub behind_pages : List ℕ → Header → Survey → Survey
 behind_pages f h s = pick (pages_ok f h) s (Refused PAGES)
 
 -- ---- the answer by homes and targets, with n extern names
-module _ (f : List ℕ) (h : Header) (home : ℕ → Offset) (target : ℕ → Target) (n : ℕ) where
+module _ (f : List ℕ) (h : Header) (home : ℕ → Option RVA) (target : ℕ → Target) (n : ℕ) where
   -- 10, 11 and the counts
   abbrev pub targets_answer : Survey
   targets_answer = answer_by (first_failed (target_checks (tally_by f h home target))) (counts_by f h home n (tally_by f h home target))

@@ -1,5 +1,6 @@
 -- The words that survey and load fill once say what the rules do, where the file's records pass their checks.
-use Rattle.std.specs.Prelude.{◌≡◌, refl, false, not, ◌&&◌, ◌||◌, List, ℕ, ◌≤◌, ◌<◌, length, get_or, replicate}
+use Rattle.arch.specs.declared.RVA.{RVA}
+use Rattle.std.specs.Prelude.{◌≡◌, refl, false, not, ◌&&◌, ◌||◌, List, ℕ, ◌≤◌, ◌<◌, length, get_or, replicate, Option}
 use Rattle.std.proofs.Common.{sym, ap, ◌∙◌}
 use Rattle.std.proofs.Math.Path.{fun_ext}
 use Rattle.std.proofs.Math.Bool.{true}
@@ -13,7 +14,6 @@ use Rattle.limits.specs.Limits.{MAX_SECTIONS, MAX_SYMBOLS, FEW_SECTIONS, FEW_SYM
 use Rattle.util.specs.Pick.{pick, yes_no, le_or_lt, and_left, and_right}
 use Rattle.util.specs.Prefix.{length_list, all_at}
 use Rattle.le.specs.Le.{splice, splice_above, front_at}
-use Rattle.arch.specs.declared.Offset.{Offset}
 use Rattle.object.specs.declared.Header.{Header}
 use Rattle.object.specs.Symbol.{primary, symbol_place, kind, ok_at}
 use Rattle.kinds.specs.declared.SymbolKind.{SymbolKind}
@@ -148,7 +148,7 @@ module _ (f : List ℕ) (h : Header) (fits : Fits f h) where
     pub targets_whole : length (externs f h) ≤ MAX_EXTERNS
         → target_in (home_words f h) (undef_start f h) (slotted f h (externs f h) (code_words f h)) ≡ targets f h
     targets_whole few =
-        ap (λ (home : ℕ → Offset). λ (j : ℕ). code_target home (undef_start f h) (get_or (slotted f h (externs f h) (code_words f h)) j 0)) homes_whole
+        ap (λ (home : ℕ → Option RVA). λ (j : ℕ). code_target home (undef_start f h) (get_or (slotted f h (externs f h) (code_words f h)) j 0)) homes_whole
         ∙ fun_ext (target_kept f h (externs f h) (code_words f h) coded codes_whole (omega arith))
 
     -- the answer is the one by the rules

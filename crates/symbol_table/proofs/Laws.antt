@@ -1,8 +1,8 @@
 -- The loop over the symbols. Assumes nothing.
+use Rattle.std.specs.Prelude.{Option}
 use Rattle.std.proofs.Common.{◌≡◌, ℕ, ◌+◌, ◌*◌, ◌%◌, ◌^◌, ◌≤◌, Bool, true, false, ◌&&◌, eqb, List, [], ◌∷◌, length, refl, ap, ◌∙◌, arith}
 use Rattle.limits.specs.Records.{SYMBOL_BYTES}
 use Rattle.arch.specs.declared.RVA.{RVA}
-use Rattle.arch.specs.declared.Offset.{Offset}
 use Rattle.arch.specs.Address.{rva}
 use Rattle.le.specs.Le.{splice}
 use Rattle.object.specs.declared.Header.{Header}
@@ -23,7 +23,7 @@ use Rattle.words.specs.Picked.{picked, Standing, picked_none, picked_more, picke
 use Rattle.symbol_table.specs.Symbols.{symbol_words, symbol_table}
 
 -- a symbol's record from what was read of it
-pub symbol_put : (f : List ℕ) (h : Header) (base : ℕ) (home : ℕ → Offset) (row : ℕ → ℕ) (stops b c : List ℕ) (s : Symbol) (j k x v kn ns nl rec : ℕ) (at : RVA) (name : Name) (sk : SymbolKind) (p : Place)
+pub symbol_put : (f : List ℕ) (h : Header) (base : ℕ) (home : ℕ → Option RVA) (row : ℕ → ℕ) (stops b c : List ℕ) (s : Symbol) (j k x v kn ns nl rec : ℕ) (at : RVA) (name : Name) (sk : SymbolKind) (p : Place)
     → c ≡ splice b k (word_bytes (x ∷ kn ∷ ns ∷ nl ∷ j ∷ rec ∷ [])) → x ≡ (base + at.0) % 2 ^ 64 → at ≡ rva (offset_from (place_home home p) v) → v ≡ listed_of s → kn ≡ kind_number sk → sk ≡ kind_of s
     → ns ≡ name_start name → nl ≡ name_length name → name ≡ symbol_name_by f h stops j → stops ≡ stops_of false f h → rec ≡ of_place row 0 p → p ≡ place_of s → s ≡ symbol_of f h j
     → c ≡ splice b k (word_bytes (symbol_words f h base home row j))
@@ -35,12 +35,12 @@ symbol_put f h base home row stops b c s j k x v kn ns nl rec at name sk p d lo 
     let q : p ≡ symbol_place f h j = rw is at e8 in
     rw (← z, ← y, ← e2, ← e6, ← e4, ← e5, ← q, ← e7) (d ∙ ap (splice b k) (rw lo (word_low (base + at.0) (kn ∷ ns ∷ nl ∷ j ∷ rec ∷ []))))
 
-symbol_long : (f : List ℕ) (h : Header) (base : ℕ) (home : ℕ → Offset) (row : ℕ → ℕ) (j : ℕ) → 8 * length (symbol_words f h base home row j) ≡ SYMBOL_BYTES
+symbol_long : (f : List ℕ) (h : Header) (base : ℕ) (home : ℕ → Option RVA) (row : ℕ → ℕ) (j : ℕ) → 8 * length (symbol_words f h base home row j) ≡ SYMBOL_BYTES
 unfolding symbol_words
 symbol_long f h base home row j = refl
 
 -- ---- the loop, with `left` auxiliary records from j on
-module _ (f : List ℕ) (h : Header) (base : ℕ) (home : ℕ → Offset) (row : ℕ → ℕ) where
+module _ (f : List ℕ) (h : Header) (base : ℕ) (home : ℕ → Option RVA) (row : ℕ → ℕ) where
   abbrev pub Written : List ℕ → List ℕ → ℕ → ℕ → Type 0
   Written l b n j = Standing SYMBOL_BYTES (picked (listed f h home) (symbol_words f h base home row) j) l b n j
 

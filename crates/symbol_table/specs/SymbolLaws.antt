@@ -1,10 +1,10 @@
 -- The symbol table, read back word by word, gives the records of its definition. For every file and every buffer that the table fits.
-use Rattle.std.specs.Prelude.{◌≡◌, ℕ, ◌+◌, ◌*◌, ◌%◌, ◌^◌, ◌<◌, ◌≤◌, true, List, length, slice_index, slice_index_or}
+use Rattle.arch.specs.declared.RVA.{RVA}
+use Rattle.std.specs.Prelude.{◌≡◌, ℕ, ◌+◌, ◌*◌, ◌%◌, ◌^◌, ◌<◌, ◌≤◌, true, List, length, slice_index, slice_index_or, Option}
 use Rattle.std.proofs.Math.Path.{refl}
 use Rattle.std.proofs.Common.{ap, ◌∙◌, arith}
 use Rattle.util.specs.Prefix.{count_to, count_below}
 use Rattle.le.specs.Le.{splice}
-use Rattle.arch.specs.declared.Offset.{Offset}
 use Rattle.object.specs.declared.Header.{Header}
 use Rattle.object.specs.Symbol.{kind, symbol_place}
 use Rattle.kinds.specs.Symbol.{kind_number}
@@ -17,13 +17,13 @@ use Rattle.limits.specs.Records.{SYMBOL_WORDS, SYMBOL_BYTES, ADDRESS, NAME_START
 use Rattle.symbol_table.specs.Symbols.{symbol_words, symbol_table}
 
 -- the listed symbols below j, in file order
-abbrev pub listed_to : List ℕ → Header → (ℕ → Offset) → ℕ → List ℕ
+abbrev pub listed_to : List ℕ → Header → (ℕ → Option RVA) → ℕ → List ℕ
 listed_to f h home j = chosen (listed f h home) j
 
-pub symbols_counted : (f : List ℕ) (h : Header) (home : ℕ → Offset) → length (listed_to f h home h.symbols) ≡ listed_total f h home
+pub symbols_counted : (f : List ℕ) (h : Header) (home : ℕ → Option RVA) → length (listed_to f h home h.symbols) ≡ listed_total f h home
 symbols_counted f h home = length_chosen (listed f h home) h.symbols
 
-module _ (f : List ℕ) (h : Header) (base : ℕ) (home : ℕ → Offset) (row : ℕ → ℕ) where
+module _ (f : List ℕ) (h : Header) (base : ℕ) (home : ℕ → Option RVA) (row : ℕ → ℕ) where
   length_symbol : (j : ℕ) → length (symbol_words f h base home row j) ≡ SYMBOL_WORDS
   unfolding symbol_words
   length_symbol j = refl
@@ -57,7 +57,7 @@ module _ (f : List ℕ) (h : Header) (base : ℕ) (home : ℕ → Offset) (row :
         ∙ ap (λ (x : ℕ). slice_index (symbol_words f h base home row x) w % 2 ^ 64) (chosen_at (listed f h home) h.symbols j 0 n t)
 
 -- ---- a record by the names of its words: what record r of t has
-pub record SymbolAt (t : List ℕ) (r : ℕ) (f : List ℕ) (h : Header) (base : ℕ) (home : ℕ → Offset) (row : ℕ → ℕ) (j : ℕ) : Type 0 where
+pub record SymbolAt (t : List ℕ) (r : ℕ) (f : List ℕ) (h : Header) (base : ℕ) (home : ℕ → Option RVA) (row : ℕ → ℕ) (j : ℕ) : Type 0 where
   pub address : word_of SYMBOL_WORDS t r ADDRESS ≡ (base + listed_offset f h home j) % 2 ^ 64
   pub kind_of : word_of SYMBOL_WORDS t r SYMBOL_KIND ≡ kind_number (kind f h j) % 2 ^ 64
   pub name_from : word_of SYMBOL_WORDS t r NAME_START ≡ name_start (symbol_name f h j) % 2 ^ 64
@@ -65,7 +65,7 @@ pub record SymbolAt (t : List ℕ) (r : ℕ) (f : List ℕ) (h : Header) (base :
   pub number : word_of SYMBOL_WORDS t r SYMBOL_NUMBER ≡ j % 2 ^ 64
   pub home_record : word_of SYMBOL_WORDS t r SYMBOL_HOME ≡ of_place row 0 (symbol_place f h j) % 2 ^ 64
 
-pub symbol_read : (f : List ℕ) (h : Header) (base : ℕ) (home : ℕ → Offset) (row : ℕ → ℕ) (b : List ℕ) (j : ℕ) → SYMBOL_BYTES * listed_total f h home ≤ length b
+pub symbol_read : (f : List ℕ) (h : Header) (base : ℕ) (home : ℕ → Option RVA) (row : ℕ → ℕ) (b : List ℕ) (j : ℕ) → SYMBOL_BYTES * listed_total f h home ≤ length b
     → j < h.symbols → listed f h home j ≡ true
     → SymbolAt (splice b 0 (symbol_table f h base home row)) (count_to (listed f h home) j) f h base home row j
 unfolding symbol_words

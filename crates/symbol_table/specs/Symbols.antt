@@ -1,7 +1,7 @@
 -- The symbol table (01, "Layout, slots and fixups"): the listed symbols in file order. `home` says where a section's home
 -- starts, and `row` which record of the section table it is.
-use Rattle.std.specs.Prelude.{ℕ, ◌+◌, List, [], ◌∷◌}
-use Rattle.arch.specs.declared.Offset.{Offset}
+use Rattle.arch.specs.declared.RVA.{RVA}
+use Rattle.std.specs.Prelude.{ℕ, ◌+◌, List, [], ◌∷◌, Option}
 use Rattle.object.specs.declared.Header.{Header}
 use Rattle.object.specs.Symbol.{kind, symbol_place}
 use Rattle.kinds.specs.Symbol.{kind_number}
@@ -10,7 +10,7 @@ use Rattle.homes.specs.Listed.{of_place, listed, listed_offset}
 use Rattle.words.specs.Picked.{picked}
 
 -- a record is six words: address, kind, name start, name length, symbol number, home. The home of a symbol is its section's record in the section table
-unfoldable pub symbol_words : List ℕ → Header → ℕ → (ℕ → Offset) → (ℕ → ℕ) → ℕ → List ℕ
+unfoldable pub symbol_words : List ℕ → Header → ℕ → (ℕ → Option RVA) → (ℕ → ℕ) → ℕ → List ℕ
 symbol_words f h base home row j =
     (base + listed_offset f h home j)
     ∷ kind_number (kind f h j)
@@ -21,5 +21,5 @@ symbol_words f h base home row j =
     ∷ []
 
 -- the table
-abbrev pub symbol_table : List ℕ → Header → ℕ → (ℕ → Offset) → (ℕ → ℕ) → List ℕ
+abbrev pub symbol_table : List ℕ → Header → ℕ → (ℕ → Option RVA) → (ℕ → ℕ) → List ℕ
 symbol_table f h base home row = picked (listed f h home) (symbol_words f h base home row) h.symbols

@@ -1,10 +1,10 @@
 -- The loops of the tables. Assumes nothing.
+use Rattle.std.specs.Prelude.{Option}
 use Rattle.std.proofs.Common.{◌≡◌, ℕ, ◌+◌, ◌*◌, ◌%◌, ◌^◌, ◌≤◌, Bool, true, false, List, [], ◌∷◌, ◌++◌, length, get_or, sym, refl, ap, ◌∙◌, add-one, arith}
 use Rattle.limits.specs.Limits.{SLOT_SIZE}
 use Rattle.limits.specs.Records.{SECTION_BYTES, EXTERN_BYTES}
 use Rattle.arch.specs.Page.{PAGE_SIZE}
 use Rattle.arch.specs.declared.RVA.{RVA}
-use Rattle.arch.specs.declared.Offset.{Offset}
 use Rattle.arch.specs.Address.{rva}
 use Rattle.homes.specs.Home.{start_of}
 use Rattle.le.specs.Le.{splice, splice_long}
@@ -28,7 +28,7 @@ two_low a b ws x y p q =
     let e : y ≡ (a + b) % 2 ^ 64 = omega arith in
     rw (p, e) (word_low a _ ∙ word_next a (a + b) ws)
 
-pub section_put : (f : List ℕ) (h : Header) (base : ℕ) (home : ℕ → Offset) (stops b c : List ℕ) (i k len from to perm ns nl x y : ℕ) (at : RVA) (name : Name)
+pub section_put : (f : List ℕ) (h : Header) (base : ℕ) (home : ℕ → Option RVA) (stops b c : List ℕ) (i k len from to perm ns nl x y : ℕ) (at : RVA) (name : Name)
     → c ≡ splice b k (word_bytes (x ∷ y ∷ from ∷ to ∷ perm ∷ ns ∷ nl ∷ (i + 1) ∷ [])) → x ≡ (base + at.0) % 2 ^ 64 → y ≡ (x + len) % 2 ^ 64 → at ≡ rva (start_of (home i)) → len ≡ range_length f h i
     → from ≡ file_start f h i → to ≡ file_end f h i → perm ≡ permissions f h i → ns ≡ name_start name → nl ≡ name_length name → name ≡ section_name_by f h stops i → stops ≡ stops_of true f h
     → c ≡ splice b k (word_bytes (section_words f h base home i))
@@ -43,12 +43,12 @@ pub undef_put : (base undef : ℕ) (b c : List ℕ) (k x y : ℕ) → c ≡ spli
     → c ≡ splice b k (word_bytes (undef_words base undef))
 undef_put base undef b c k x y d lo hi = d ∙ ap (splice b k) (two_low (base + undef) PAGE_SIZE (0 ∷ 0 ∷ READ ∷ 0 ∷ 0 ∷ 0 ∷ []) x y lo hi)
 
-section_long : (f : List ℕ) (h : Header) (base : ℕ) (home : ℕ → Offset) (i : ℕ) → 8 * length (section_words f h base home i) ≡ SECTION_BYTES
+section_long : (f : List ℕ) (h : Header) (base : ℕ) (home : ℕ → Option RVA) (i : ℕ) → 8 * length (section_words f h base home i) ≡ SECTION_BYTES
 unfolding section_words
 section_long f h base home i = refl
 
 -- ---- the loop over the sections
-module _ (f : List ℕ) (h : Header) (base : ℕ) (home : ℕ → Offset) where
+module _ (f : List ℕ) (h : Header) (base : ℕ) (home : ℕ → Option RVA) where
   abbrev pub Written : List ℕ → List ℕ → ℕ → ℕ → Type 0
   Written l b n i = Standing SECTION_BYTES (picked (loaded f h) (section_words f h base home) i) l b n i
 
@@ -62,7 +62,7 @@ module _ (f : List ℕ) (h : Header) (base : ℕ) (home : ℕ → Offset) where
     pub sections_same : Written l b n i → t ≡ loaded f h i → t ≡ false → Written l b n (i + 1)
     sections_same o e y = picked_same (loaded f h) (section_words f h base home) SECTION_BYTES i n l b t e o y
 
-pub sections_end : (f : List ℕ) (h : Header) (base : ℕ) (home : ℕ → Offset) (undef i n m : ℕ) (l b c : List ℕ) → Standing SECTION_BYTES (picked (loaded f h) (section_words f h base home) i) l b n i → i ≤ m → m ≤ i
+pub sections_end : (f : List ℕ) (h : Header) (base : ℕ) (home : ℕ → Option RVA) (undef i n m : ℕ) (l b c : List ℕ) → Standing SECTION_BYTES (picked (loaded f h) (section_words f h base home) i) l b n i → i ≤ m → m ≤ i
     → m ≡ h.sections → c ≡ splice b (SECTION_BYTES * n) (word_bytes (undef_words base undef)) → c ≡ splice l 0 (section_table f h base home undef)
 sections_end f h base home undef i n m l b c o a k z d =
     let w : i ≡ h.sections = omega arith in

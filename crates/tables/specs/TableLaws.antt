@@ -1,12 +1,12 @@
 -- Each table, read back word by word, gives the records of its definition. For every file and every buffer that the table fits.
-use Rattle.std.specs.Prelude.{◌≡◌, ℕ, zero, suc, ◌+◌, ◌*◌, ◌%◌, ◌^◌, ◌<◌, ◌≤◌, Bool, true, List, ◌++◌, length, get_or, slice_index, slice_index_or}
+use Rattle.arch.specs.declared.RVA.{RVA}
+use Rattle.std.specs.Prelude.{◌≡◌, ℕ, zero, suc, ◌+◌, ◌*◌, ◌%◌, ◌^◌, ◌<◌, ◌≤◌, Bool, true, List, ◌++◌, length, get_or, slice_index, slice_index_or, Option}
 use Rattle.std.proofs.Math.Path.{refl, ap}
 use Rattle.std.proofs.Common.{sym, ◌∙◌, arith, length-append}
 use Rattle.util.specs.Pick.{pick}
 use Rattle.util.specs.Prefix.{count_to, count_below}
 use Rattle.le.specs.Le.{splice}
 use Rattle.arch.specs.Page.{PAGE_SIZE}
-use Rattle.arch.specs.declared.Offset.{Offset}
 use Rattle.object.specs.declared.Header.{Header}
 use Rattle.object.specs.Section.{loaded, file_start, file_end, range_length, permissions}
 use Rattle.names.specs.Name.{section_name, symbol_name, name_start, name_length}
@@ -28,7 +28,7 @@ loaded_to f h i = chosen (loaded f h) i
 pub sections_counted : (f : List ℕ) (h : Header) → length (loaded_to f h h.sections) + 1 ≡ table_records f h
 sections_counted f h = ap (λ (n : ℕ). n + 1) (length_chosen (loaded f h) h.sections)
 
-module _ (f : List ℕ) (h : Header) (base : ℕ) (home : ℕ → Offset) (undef : ℕ) where
+module _ (f : List ℕ) (h : Header) (base : ℕ) (home : ℕ → Option RVA) (undef : ℕ) where
   length_section : (i : ℕ) → length (section_words f h base home i) ≡ SECTION_WORDS
   unfolding section_words
   length_section i = refl
@@ -108,7 +108,7 @@ module _ (f : List ℕ) (h : Header) (base undef : ℕ) (slots : List ℕ) where
 -- ---- the records by the names of their words: what record r of t has
 module _ (t : List ℕ) (r : ℕ) where
   -- of section i: its range at the base, its file range, permissions, name, and number from 1
-  pub record SectionAt (f : List ℕ) (h : Header) (base : ℕ) (home : ℕ → Offset) (i : ℕ) : Type 0 where
+  pub record SectionAt (f : List ℕ) (h : Header) (base : ℕ) (home : ℕ → Option RVA) (i : ℕ) : Type 0 where
     pub start : word_of SECTION_WORDS t r SECTION_START ≡ (base + start_of (home i)) % 2 ^ 64
     pub end : word_of SECTION_WORDS t r SECTION_END ≡ (base + start_of (home i) + range_length f h i) % 2 ^ 64
     pub file_from : word_of SECTION_WORDS t r SECTION_FILE_START ≡ file_start f h i % 2 ^ 64
@@ -136,7 +136,7 @@ module _ (t : List ℕ) (r : ℕ) where
     pub name_from : word_of EXTERN_WORDS t r NAME_START ≡ name_start (symbol_name f h (slice_index slots e)) % 2 ^ 64
     pub name_long : word_of EXTERN_WORDS t r NAME_LENGTH ≡ name_length (symbol_name f h (slice_index slots e)) % 2 ^ 64
 
-module _ (f : List ℕ) (h : Header) (base : ℕ) (home : ℕ → Offset) (undef : ℕ) (b : List ℕ) (r : SECTION_BYTES * table_records f h ≤ length b) where
+module _ (f : List ℕ) (h : Header) (base : ℕ) (home : ℕ → Option RVA) (undef : ℕ) (b : List ℕ) (r : SECTION_BYTES * table_records f h ≤ length b) where
   room : SECTION_BYTES * (length (loaded_to f h h.sections) + 1) ≤ length b
   room = rw (sections_counted f h) r
 

@@ -1,4 +1,5 @@
 -- The ways through the code. Assumes nothing.
+use Rattle.std.specs.Prelude.{None, Option, Some}
 use mathlib.Core.Path.{◌≡◌}
 use mathlib.Core.Bool.{true, false}
 use mathlib.Core.List.{List}
@@ -8,8 +9,6 @@ use lib.ListN.{get_or}
 use Rattle.util.specs.Pick.{pick}
 use Rattle.limits.specs.Limits.{SLOT_SIZE}
 use Rattle.arch.specs.declared.RVA.{RVA}
-use Rattle.arch.specs.declared.Offset.{Offset}
-use Rattle.arch.specs.declared.Offset.TheVariants.{At, None}
 use Rattle.arch.specs.Address.{rva}
 use Rattle.homes.specs.Home.{by_number, start_of}
 use Rattle.codes.specs.Code.{REFUSED, UNDEF_RECORD, HOMES, RECORDS, SLOTS}
@@ -19,8 +18,8 @@ use Rattle.targets.specs.declared.Target.TheVariants.{Home, Named, Slot, Missing
 use Rattle.targets.specs.Target.{home_target}
 use Rattle.targets.specs.Table.{plain_target, code_target}
 
-module _ (x y : Offset) (is : x ≡ y) where
-  pub home_at : (o : RVA) → x ≡ At o → Home o ≡ home_target y
+module _ (x y : Option RVA) (is : x ≡ y) where
+  pub home_at : (o : RVA) → x ≡ Some o → Home o ≡ home_target y
   unfolding home_target
   home_at o e = rw (← is, e)
 
@@ -51,7 +50,7 @@ module _ (undef c : ℕ) where
 
 pub ruleset plain_ways = (plain_none, plain_refused, plain_undef, plain_slot)
 
-module _ (home : ℕ → Offset) (undef c : ℕ) where
+module _ (home : ℕ → Option RVA) (undef c : ℕ) where
   pub code_plain : (r : Target) → ltb c HOMES ≡ true → r ≡ plain_target undef c → r ≡ code_target home undef c
   unfolding code_target pick
   code_plain r e q = rw e q
@@ -72,6 +71,6 @@ module _ (home : ℕ → Offset) (undef c : ℕ) where
 
 pub ruleset code_ways = (code_plain, code_home, code_record, code_slot)
 
-pub target_by : (home : ℕ → Offset) (codes : List ℕ) (undef c j : ℕ) {r : Target} → r ≡ code_target home undef c → c ≡ get_or codes j 0
+pub target_by : (home : ℕ → Option RVA) (codes : List ℕ) (undef c j : ℕ) {r : Target} → r ≡ code_target home undef c → c ≡ get_or codes j 0
     → r ≡ code_target home undef (get_or codes j 0)
 target_by home codes undef c j p q = rw (← q) p

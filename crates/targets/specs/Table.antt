@@ -1,5 +1,6 @@
 -- The targets by the codes that are kept of the symbols (crates `codes` and `externs`): each is what its symbol comes to (`targets-kept`).
-use Rattle.std.specs.Prelude.{◌≡◌, Bool, List, ℕ, ◌+◌, ◌-◌, ◌*◌, ◌%◌, ◌≤◌, ◌<◌, eqb, leb, ltb}
+use Rattle.arch.specs.declared.RVA.{RVA}
+use Rattle.std.specs.Prelude.{◌≡◌, Bool, List, ℕ, ◌+◌, ◌-◌, ◌*◌, ◌%◌, ◌≤◌, ◌<◌, eqb, leb, ltb, None, Option, Some}
 use Rattle.std.proofs.Math.Path.{refl, ap}
 use Rattle.std.proofs.Common.{◌∙◌}
 use Rattle.std.proofs.Math.Bool.{true, false}
@@ -11,8 +12,6 @@ use Rattle.util.specs.Pick.{pick, le_or_lt, and_left}
 use Rattle.util.specs.Prefix.{length_list, list_at}
 use Rattle.le.specs.Le.{splice_above, front_at}
 use Rattle.limits.specs.Limits.{SLOT_SIZE}
-use Rattle.arch.specs.declared.Offset.{Offset}
-use Rattle.arch.specs.declared.Offset.TheVariants.{None}
 use Rattle.arch.specs.Address.{rva}
 use Rattle.object.specs.declared.Header.{Header}
 use Rattle.object.specs.Section.{loaded}
@@ -28,8 +27,6 @@ use Rattle.ranks.specs.Named.{TableRecord, Loaded, Undef, Nowhere, section_is_na
 use Rattle.ranks.specs.FirstLaws.{found_at}
 use Rattle.homes.specs.Home.{section_home, record_start, by_number, start_of, home_in}
 use Rattle.homes.specs.HomeLaws.{loaded_start}
-use Rattle.externs.specs.declared.Found.{Found}
-use Rattle.externs.specs.declared.Found.TheVariants.{Index, Nothing}
 use Rattle.externs.specs.Slot.{slot_of}
 use Rattle.externs.specs.SlotLaws.{slot_inside}
 use Rattle.externs.specs.Slotted.{found_code, takes_slot, settled, slotted_code, slotted_at, slotted_to, slotted}
@@ -44,7 +41,7 @@ plain_target undef c =
     pick (eqb c 0) (Missing NoSymbol) (pick (leb c REFUSED) Refused (pick (eqb c UNDEF_RECORD) (Named (rva undef)) (Missing NoSlot)))
 
 -- any code: `home` says where a section's home starts
-unfoldable pub code_target : (ℕ → Offset) → ℕ → ℕ → Target
+unfoldable pub code_target : (ℕ → Option RVA) → ℕ → ℕ → Target
 code_target home undef c =
     pick (ltb c HOMES) (plain_target undef c)
     (pick (ltb c RECORDS) (home_target (by_number home None (c - HOMES)))
@@ -55,7 +52,7 @@ abbrev pub target_in : List ℕ → ℕ → List ℕ → ℕ → Target
 target_in homes undef codes j = code_target (home_in homes) undef (get_or codes j 0)
 
 -- ---- each code says what was coded
-module _ (home : ℕ → Offset) (undef : ℕ) where
+module _ (home : ℕ → Option RVA) (undef : ℕ) where
   of_home : (n : ℕ) → n < SPAN → code_target home undef (HOMES + n % SPAN) ≡ home_target (by_number home None n)
   unfolding code_target pick
   of_home n k =
@@ -99,17 +96,17 @@ module _ (home : ℕ → Offset) (undef : ℕ) where
   of_nothing = refl
 
   -- where the slot is taken
-  of_found : (x : Found) → ((e : ℕ) → x ≡ Index e → e < SPAN) → code_target home undef (found_code x) ≡ slot_target undef x
+  of_found : (x : Option ℕ) → ((e : ℕ) → x ≡ Some e → e < SPAN) → code_target home undef (found_code x) ≡ slot_target undef x
   unfolding found_code slot_target
-  of_found (Index e) few = of_slot e (few e refl)
-  of_found Nothing few = of_none
+  of_found (Some e) few = of_slot e (few e refl)
+  of_found None few = of_none
 
-high_left : (c : ℕ) (x : Found) → HOMES ≤ c → slotted_code c x ≡ c
+high_left : (c : ℕ) (x : Option ℕ) → HOMES ≤ c → slotted_code c x ≡ c
 unfolding slotted_code settled pick
 high_left c x k = rw (ne_eqb c SLOT (λ e. omega arith), ne_eqb c EXTERN (λ e. omega arith), ne_eqb c UNDEF_EXTERN (λ e. omega arith))
 
 -- ---- of a symbol's own record, and of any
-module _ (f : List ℕ) (h : Header) (slot : List ℕ → Found) (j : ℕ) (few : (e : ℕ) → slot (symbol_text f h j) ≡ Index e → e < SPAN) where
+module _ (f : List ℕ) (h : Header) (slot : List ℕ → Option ℕ) (j : ℕ) (few : (e : ℕ) → slot (symbol_text f h j) ≡ Some e → e < SPAN) where
   abbrev decoded : ℕ → Target
   decoded c = code_target (section_home f h) (undef_start f h) (slotted_code c (slot (symbol_text f h j)))
 

@@ -1,10 +1,9 @@
 -- What a relocation's symbol comes to, as an offset from the base (01, "Layout, slots and fixups" and refusal 10).
-use Rattle.std.specs.Prelude.{◌≡◌, refl, List, ℕ, ◌+◌, ◌*◌, leb}
+use Rattle.arch.specs.declared.RVA.{RVA}
+use Rattle.std.specs.Prelude.{◌≡◌, refl, List, ℕ, ◌+◌, ◌*◌, leb, None, Option, Some}
 use Rattle.util.specs.Pick.{pick}
 use Rattle.limits.specs.Limits.{SLOT_SIZE}
 use Rattle.refusal.specs.Refusal.{TARGET}
-use Rattle.arch.specs.declared.Offset.{Offset}
-use Rattle.arch.specs.declared.Offset.TheVariants.{At, None}
 use Rattle.arch.specs.Address.{rva}
 use Rattle.object.specs.declared.Header.{Header}
 use Rattle.object.specs.Symbol.{primary}
@@ -16,8 +15,6 @@ use Rattle.codes.specs.Code.{symbol_rule}
 use Rattle.layout.specs.Layout.{undef_start}
 use Rattle.ranks.specs.Named.{named_record}
 use Rattle.homes.specs.Home.{section_home, record_start, by_number}
-use Rattle.externs.specs.declared.Found.{Found}
-use Rattle.externs.specs.declared.Found.TheVariants.{Index, Nothing}
 use Rattle.externs.specs.Externs.{externs}
 use Rattle.externs.specs.Slot.{slot_of}
 use Rattle.targets.specs.declared.Skip.{Skip}
@@ -42,22 +39,22 @@ target_refusal (Missing k) = 0
 target_refusal Refused = TARGET
 
 -- a symbol in a section: where that section's home starts
-unfoldable pub home_target : Offset → Target
-home_target (At o) = Home o
+unfoldable pub home_target : Option RVA → Target
+home_target (Some o) = Home o
 home_target None = Missing NoHome
 
 -- the slot of a name: slot e is 4 bytes at UNDEF + 4 e
-unfoldable pub slot_target : ℕ → Found → Target
-slot_target undef (Index e) = Slot (rva (undef + SLOT_SIZE * e))
-slot_target undef Nothing = Missing NoSlot
+unfoldable pub slot_target : ℕ → Option ℕ → Target
+slot_target undef (Some e) = Slot (rva (undef + SLOT_SIZE * e))
+slot_target undef None = Missing NoSlot
 
 -- a section by its name: where the first table record of that name starts, else the slot
-unfoldable pub named_target : Offset → Target → Target
-named_target (At o) other = Named o
+unfoldable pub named_target : Option RVA → Target → Target
+named_target (Some o) other = Named o
 named_target None other = other
 
 -- ---- `home` says where a section's home starts, `slot` finds a name's slot
-module _ (f : List ℕ) (h : Header) (home : ℕ → Offset) (undef : ℕ) (slot : List ℕ → Found) where
+module _ (f : List ℕ) (h : Header) (home : ℕ → Option RVA) (undef : ℕ) (slot : List ℕ → Option ℕ) where
   -- the slot of symbol j's name, or K3
   abbrev pub slot_for : ℕ → Target
   slot_for j = slot_target undef (slot (symbol_text f h j))
@@ -83,22 +80,22 @@ abbrev pub targets : List ℕ → Header → ℕ → Target
 targets f h = target_of f h (section_home f h) (undef_start f h) (slot_of f h (externs f h))
 
 -- ---- a target is refused where its rule is, by the same number
-home_not_refused : (x : Offset) → target_refusal (home_target x) ≡ 0
+home_not_refused : (x : Option RVA) → target_refusal (home_target x) ≡ 0
 unfolding home_target
-home_not_refused (At o) = refl
+home_not_refused (Some o) = refl
 home_not_refused None = refl
 
-slot_not_refused : (undef : ℕ) (x : Found) → target_refusal (slot_target undef x) ≡ 0
+slot_not_refused : (undef : ℕ) (x : Option ℕ) → target_refusal (slot_target undef x) ≡ 0
 unfolding slot_target
-slot_not_refused undef (Index e) = refl
-slot_not_refused undef Nothing = refl
+slot_not_refused undef (Some e) = refl
+slot_not_refused undef None = refl
 
-named_not_refused : (x : Offset) (other : Target) → target_refusal other ≡ 0 → target_refusal (named_target x other) ≡ 0
+named_not_refused : (x : Option RVA) (other : Target) → target_refusal other ≡ 0 → target_refusal (named_target x other) ≡ 0
 unfolding named_target
-named_not_refused (At o) other e = refl
+named_not_refused (Some o) other e = refl
 named_not_refused None other e = e
 
-pub rule_refused : (f : List ℕ) (h : Header) (home : ℕ → Offset) (undef : ℕ) (slot : List ℕ → Found) (r : Rule) (j : ℕ)
+pub rule_refused : (f : List ℕ) (h : Header) (home : ℕ → Option RVA) (undef : ℕ) (slot : List ℕ → Option ℕ) (r : Rule) (j : ℕ)
     → target_refusal (rule_target f h home undef slot r j) ≡ rule_refusal r
 unfolding rule_target
 rule_refused f h home undef slot (rules.Section n) j = home_not_refused (by_number home None n)

@@ -2,12 +2,11 @@
 #![tactic(auto)]
 
 ghost use Rattle.std.specs.Prelude.{◌≡◌};
-ghost use Rattle.arch.specs.declared.Offset.TheVariants.{None};
 ghost use Rattle.homes.specs.Home.{by_number, home_in};
 ghost use Rattle.targets.specs.Target.{home_target};
 ghost use Rattle.targets.specs.Table.{plain_target, code_target, target_in};
 
-use arch::{Offset, RVA};
+use arch::RVA;
 
 // Why a relocation is skipped: K1 to K4.
 #[derive(Clone, Copy)]
@@ -32,8 +31,8 @@ fn home_target(homes: &[u32], n: u32) -> Target
     ensures { result ≡ home_target (by_number (home_in homes.now) None n) }
 {
     match homes::home_of_number(homes, n) {
-        Offset::At(o) => Target::Home(o),
-        Offset::None => Target::Missing(Skip::NoHome),
+        Some(o) => Target::Home(o),
+        None => Target::Missing(Skip::NoHome),
     }
 }
 

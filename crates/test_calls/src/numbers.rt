@@ -1,5 +1,5 @@
 // Numbers alone: `util` and `arch`.
-use arch::{Address, Arch, Machine, Offset, RVA, VA};
+use arch::{Arch, RVA, VA};
 
 // The function's place in this list, in whose order the arms below stand.
 pub(crate) fn question(line: &[u8]) -> u8 {
@@ -50,21 +50,21 @@ pub(crate) fn of_bits(bits: u64) -> Arch {
 
 fn machine(m: Machine) {
     match m {
-        Machine::Known(a) => cases::hex(a.machine() as u64),
-        Machine::Unknown => cases::yes(false),
+        Some(a) => cases::hex(a.machine() as u64),
+        None => cases::yes(false),
     }
 }
 
-fn offset(o: Offset) {
+fn offset(o: Option<RVA>) {
     match o {
-        Offset::At(r) => cases::hex(r.0),
-        Offset::None => cases::yes(false),
+        Some(r) => cases::hex(r.0),
+        None => cases::yes(false),
     }
 }
 
-fn address(a: Address) {
+fn address(a: Option<VA>) {
     match a {
-        Address::Of(v) => cases::hex(v.0),
-        Address::Past => cases::yes(false),
+        Some(v) => cases::hex(v.0),
+        None => cases::yes(false),
     }
 }

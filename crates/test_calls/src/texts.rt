@@ -1,6 +1,7 @@
 // Names, which `names` finds in the file, and two names that are the file, one behind the other.
 use crate::records;
-use names::{Name, Order};
+use names::Name;
+use std::cmp::Ordering;
 use object::Header;
 
 // The function's place in this list, in whose order the arms below stand.
@@ -23,7 +24,7 @@ pub(crate) fn answer(k: u8, f: &[u8], a: u64, b: u64) {
     }
 }
 
-fn found(k: u8, f: &[u8], h: Header, i: u32) -> Name {
+fn found(k: u8, f: &[u8], h: Header, i: u32) -> Option<Name> {
     match k {
         0 => names::section_name(f, h, i),
         _ => names::symbol_name(f, h, i),
@@ -31,14 +32,14 @@ fn found(k: u8, f: &[u8], h: Header, i: u32) -> Name {
 }
 
 // Whether it is good, where it is, how long, and its bytes.
-fn name(f: &[u8], name: Name) {
+fn name(f: &[u8], name: Option<Name>) {
     cases::yes(names::is_good(name));
     match name {
-        Name::Good(at, n) => {
+        Some(n) => {
             cases::hex(at as u64);
             cases::hex(n as u64);
         }
-        Name::Bad => {}
+        None => {}
     }
     cases::bytes(names::name_bytes(f, name));
 }
@@ -54,9 +55,9 @@ fn pair(k: u8, a: &[u8], b: &[u8]) {
 
 fn order(o: Order) {
     let sign = match o {
-        Order::Less => b'<',
-        Order::Equal => b'=',
-        Order::Greater => b'>',
+        Ordering::Less => b'<',
+        Ordering::Equal => b'=',
+        Ordering::Greater => b'>',
     };
     cases::text(&[b' ', sign]);
 }
