@@ -1,18 +1,16 @@
 -- What a number that was read says as an answer; a refusal keeps its number.
+use Rattle.arch.specs.declared.RVA.{RVA}
+use Rattle.arch.specs.declared.VA.{VA}
+use Rattle.refusal.specs.declared.Refusal.{Refusal}
+use Rattle.std.specs.Prelude.{Result, Ok, Err}
 use Rattle.arch.specs.Address.{va, rva}
-use Rattle.refusal.specs.declared.Number.{Number}
-use Rattle.refusal.specs.declared.Number.TheVariants.{Value, Refusal}
-use Rattle.answers.specs.declared.AddressAnswer.{AddressAnswer}
-use Rattle.answers.specs.declared.AddressAnswer.TheVariants as A
-use Rattle.answers.specs.declared.OffsetAnswer.{OffsetAnswer}
-use Rattle.answers.specs.declared.OffsetAnswer.TheVariants as O
 
 -- as an address
-abbrev pub as_address : Number → AddressAnswer
-as_address (Value v) = A.Found (va v)
-as_address (Refusal k) = A.Refused k
+abbrev pub as_address : Result ℕ Refusal → Result VA Refusal
+as_address (Ok v) = Ok (va v)
+as_address (Err k) = Err k
 
 -- as an offset from the base
-abbrev pub as_offset : Number → OffsetAnswer
-as_offset (Value v) = O.Found (rva v)
-as_offset (Refusal k) = O.Refused k
+abbrev pub as_offset : Result ℕ Refusal → Result RVA Refusal
+as_offset (Ok v) = Ok (rva v)
+as_offset (Err k) = Err k

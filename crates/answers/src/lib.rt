@@ -5,7 +5,7 @@ ghost use Rattle.std.specs.Prelude.{◌≡◌};
 ghost use Rattle.answers.specs.Answers.{as_address, as_offset};
 
 use arch::{RVA, VA};
-use refusal::Number;
+use refusal::Refusal;
 
 // An address, or the number of a refusal.
 #[derive(Clone, Copy)]
@@ -22,21 +22,21 @@ pub enum OffsetAnswer {
 }
 
 // A number that was read, as an address.
-pub fn as_address(n: Number) -> AddressAnswer
+pub fn as_address(n: Result<u64, Refusal>) -> Result<VA, Refusal>
     ensures { result ≡ as_address n }
 {
     match n {
-        Number::Value(v) => AddressAnswer::Found(VA(v)),
-        Number::Refusal(code) => AddressAnswer::Refused(code),
+        Ok(v) => Ok(VA(v)),
+        Err(code) => AddressErr(code),
     }
 }
 
 // A number that was read, as an offset from the base.
-pub fn as_offset(n: Number) -> OffsetAnswer
+pub fn as_offset(n: Result<u64, Refusal>) -> Result<RVA, Refusal>
     ensures { result ≡ as_offset n }
 {
     match n {
-        Number::Value(v) => OffsetAnswer::Found(RVA(v)),
-        Number::Refusal(code) => OffsetAnswer::Refused(code),
+        Ok(v) => Ok(RVA(v)),
+        Err(code) => OffsetErr(code),
     }
 }

@@ -1,7 +1,7 @@
--- The two machines (01, "arch.rs, lib.rs"; PE/COFF, "(Option Arch) Types").
+-- The two machines (01, "arch.rs, lib.rs"; PE/COFF, "Machine Types").
 use Rattle.std.specs.Prelude.{◌≡◌, refl, ℕ, eqb, None, Option, Some}
 use Rattle.util.specs.Pick.{pick}
-use Rattle.refusal.specs.Refusal.{MACHINE}
+use Rattle.refusal.specs.Refusal.{Code, PASSES, MACHINE}
 use Rattle.arch.specs.declared.Arch.{Arch}
 use Rattle.arch.specs.declared.Arch.TheVariants.{X32, X64}
 
@@ -24,9 +24,9 @@ abbrev pub arch_by : Option Arch → Arch
 arch_by (Some a) = a
 arch_by None = X32
 
--- the refusal of each case (01, "Survey"), 0 where there is none
-abbrev pub machine_refusal : Option Arch → ℕ
-machine_refusal (Some a) = 0
+-- the refusal of each case (01, "Survey")
+abbrev pub machine_refusal : Option Arch → Code
+machine_refusal (Some a) = PASSES
 machine_refusal None = MACHINE
 
 -- there and back
@@ -34,13 +34,3 @@ pub machine_back : (a : Arch) → arch_of (machine_of a) ≡ Some a
 unfolding arch_of pick
 machine_back X32 = refl
 machine_back X64 = refl
-
--- ---- the ways through `by_machine`
-module _ (m : Option Arch) (n : ℕ) (is : m ≡ arch_of n) where
-  pub by_known : (a : Arch) → m ≡ Some a → a ≡ arch_by (arch_of n)
-  by_known a e = rw (← is, e)
-
-  pub by_unknown : m ≡ None → X32 ≡ arch_by (arch_of n)
-  by_unknown e = rw (← is, e)
-
-pub ruleset machine_ways = (by_known, by_unknown)

@@ -1,4 +1,7 @@
 -- The ways through the readers. Assumes nothing.
+use Rattle.refusal.specs.declared.Refusal.{Refusal}
+use Rattle.refusal.specs.Refusal.{Code}
+use Rattle.std.specs.Prelude.{Ok, Err, Result}
 use mathlib.Core.Path.{◌≡◌, refl, ap, ◌∙◌}
 use mathlib.Core.Bool.{Bool, true, false}
 use mathlib.Core.List.{List}
@@ -13,21 +16,19 @@ use Rattle.arch.specs.declared.Arch.{Arch}
 use Rattle.arch.specs.declared.Arch.TheVariants.{X32, X64}
 use Rattle.arch.specs.Machine.{pointer_size}
 use Rattle.le.specs.Le.{get, part, splice}
-use Rattle.refusal.specs.declared.Answer.{Answer}
-use Rattle.refusal.specs.declared.Number.{Number}
-use Rattle.refusal.specs.Refusal.{STORAGE, number_of, Leaves}
+use Rattle.refusal.specs.Refusal.{STORAGE, answer_of, Leaves}
 use Rattle.pagemap.specs.Pages.{span_mapped, read_code}
 use Rattle.pagemap.specs.PageLaws.{read_span, read_in}
 use Rattle.aspace.specs.Space.{read_number, bytes_code, reached, offset_at, span_mapped_at, read_code_at, read_number_at, bytes_code_at}
 use Rattle.aspace.specs.SpaceLaws.{last_unmapped, offset_span, offset_there, leaves_same}
 
 -- ---- numbers at an offset
-module _ (image marks : List ℕ) (o : ℕ) (r : Number) where
-  pub number_byte : r ≡ number_of (read_code (length image) marks o 1) (get_or image o 0) → r ≡ read_number 1 image marks o
+module _ (image marks : List ℕ) (o : ℕ) (r : Result ℕ Refusal) where
+  pub number_byte : r ≡ answer_of (read_code (length image) marks o 1) (get_or image o 0) → r ≡ read_number 1 image marks o
   unfolding read_number get
   number_byte e = let one : get_or image o 0 + 256 * 0 ≡ get_or image o 0 = omega arith in rw one e
 
-  pub number_is : (n k v : ℕ) → k ≡ read_code (length image) marks o n → v ≡ get n image o → r ≡ number_of k v → r ≡ read_number n image marks o
+  pub number_is : (n k v : ℕ) → k ≡ read_code (length image) marks o n → v ≡ get n image o → r ≡ answer_of k v → r ≡ read_number n image marks o
   unfolding read_number
   number_is n k v p q e = rw (← p, ← q) e
 
@@ -57,18 +58,18 @@ pub copied : (b x s t : List ℕ) (i : ℕ) → x ≡ splice b i s → s ≡ t �
 copied b x s t i e q = rw (← q) e
 
 -- ---- what is refused says and leaves the same, whatever would have been read or written
-number_same : (code v w : ℕ) → (code ≡ 0 → v ≡ w) → number_of code v ≡ number_of code w
-unfolding number_of
+number_same : (code v w : ℕ) → (code ≡ 0 → v ≡ w) → answer_of code v ≡ answer_of code w
+unfolding answer_of
 number_same zero v w e = rw (e refl)
 number_same (suc k) v w e = refl
 
 -- the bytes at o are refused as those at p are, with the code `same`; if they are not, o is p
 module _ (image marks : List ℕ) (n o p same : ℕ) (is : read_code (length image) marks o n ≡ same) (there : read_code (length image) marks o n ≡ 0 → o ≡ p) where
-  number_by : (r : Number) → r ≡ read_number n image marks o → r ≡ number_of same (get n image p)
+  number_by : (r : Result ℕ Refusal) → r ≡ read_number n image marks o → r ≡ answer_of same (get n image p)
   unfolding read_number
   number_by r e = rw (← is) (e ∙ number_same (read_code (length image) marks o n) (get n image o) (get n image p) (λ z. ap (get n image) (there z)))
 
-  module _ (old x : List ℕ) (r : Answer) where
+  module _ (old x : List ℕ) (r : Code) where
     into_by : Leaves (read_code (length image) marks o n) old (part image o n) x r → Leaves same old (part image p n) x r
     into_by l = rw (← is) (leaves_same (read_code (length image) marks o n) old (part image o n) (part image p n) x r (λ z. rw (there z)) l)
 
@@ -109,15 +110,15 @@ module _ (image marks : List ℕ) (base a n o : ℕ) (fits : length image * 1 < 
   there_by : read_code (length image) marks o n ≡ 0 → o ≡ a - base
   there_by e = offset_there (length image) marks base a n o (omega arith) is (read_span (length image) marks o n e)
 
-  pub number_at : (r : Number) → r ≡ read_number n image marks o → r ≡ read_number_at n image marks base a
+  pub number_at : (r : Result ℕ Refusal) → r ≡ read_number n image marks o → r ≡ read_number_at n image marks base a
   unfolding read_number_at
   number_at = number_by image marks n o (a - base) _ read_by there_by
 
   -- of the width that was asked for
-  pub pointer_at : (m : ℕ) (r : Number) → n ≡ m → r ≡ read_number m image marks o → r ≡ read_number_at m image marks base a
+  pub pointer_at : (m : ℕ) (r : Result ℕ Refusal) → n ≡ m → r ≡ read_number m image marks o → r ≡ read_number_at m image marks base a
   pointer_at m r q e = rw (← q) (number_at r (rw q e))
 
-  module _ (old x : List ℕ) (r : Answer) where
+  module _ (old x : List ℕ) (r : Code) where
     pub into_at : Leaves (read_code (length image) marks o n) old (part image o n) x r → Leaves (read_code_at (length image) marks base a n) old (part image (a - base) n) x r
     into_at = into_by image marks n o (a - base) _ read_by there_by old x r
 
@@ -140,11 +141,11 @@ module _ (image marks : List ℕ) (start offset n o : ℕ) (fits : length image 
   there_sum : read_code (length image) marks o n ≡ 0 → o ≡ start + offset
   there_sum e = let i = read_in (length image) marks o n e in omega arith
 
-  pub number_from : (r : Number) → r ≡ read_number n image marks o → r ≡ read_number n image marks (start + offset)
+  pub number_from : (r : Result ℕ Refusal) → r ≡ read_number n image marks o → r ≡ read_number n image marks (start + offset)
   unfolding read_number
   number_from = number_by image marks n o (start + offset) _ read_sum there_sum
 
-  module _ (old x : List ℕ) (r : Answer) where
+  module _ (old x : List ℕ) (r : Code) where
     pub into_from : Leaves (read_code (length image) marks o n) old (part image o n) x r → Leaves (read_code (length image) marks (start + offset) n) old (part image (start + offset) n) x r
     into_from = into_by image marks n o (start + offset) _ read_sum there_sum old x r
 

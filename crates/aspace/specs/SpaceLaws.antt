@@ -1,5 +1,6 @@
 -- What holds of the spaces' definitions, as later layers ask it.
-use Rattle.std.specs.Prelude.{◌≡◌, refl, Bool, List, length}
+use Rattle.refusal.specs.Refusal.{Code}
+use Rattle.std.specs.Prelude.{◌≡◌, refl, Bool, List, length, Ok, Err}
 use Rattle.std.proofs.Common.{◌∙◌, ⊎_elim}
 use Rattle.std.proofs.Math.Bool.{true, false}
 use Prim.Native.Nat.{ℕ, zero, suc, ◌+◌, ◌-◌, ◌^◌, ◌≤◌, ◌<◌, max}
@@ -7,7 +8,6 @@ use native.Mathlib.Omega.{arith}
 use Rattle.std.proofs.Math.Dec.{leb}
 use borrow.Author.Tests.{le-leb}
 use Rattle.util.specs.Pick.{pick, yes_no}
-use Rattle.refusal.specs.declared.Answer.{Answer}
 use Rattle.refusal.specs.Refusal.{unless_refused, Leaves}
 use Rattle.pagemap.specs.Pages.{span_mapped, read_code}
 use Rattle.pagemap.specs.PageLaws.{span_in_lem}
@@ -58,7 +58,7 @@ module _ (size : ℕ) (marks : List ℕ) (base a n o : ℕ) (fits : size < 2 ^ 6
   offset_there = there_by (reached base a n) refl
 
 -- ---- a refusal leaves the same, whatever would have been written
-pub leaves_same : {A : Type 0} (code : ℕ) (old new other x : A) (r : Answer) → (code ≡ 0 → new ≡ other) → Leaves code old new x r → Leaves code old other x r
+pub leaves_same : {A : Type 0} (code : ℕ) (old new other x : A) (r : Code) → (code ≡ 0 → new ≡ other) → Leaves code old new x r → Leaves code old other x r
 unfolding unless_refused
 leaves_same zero old new other x r e l = record { says = l.says; leaves = l.leaves ∙ e refl }
 leaves_same (suc k) old new other x r e l = record { says = l.says; leaves = l.leaves }

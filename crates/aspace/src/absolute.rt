@@ -7,7 +7,7 @@ ghost use Rattle.aspace.specs.Space.{offset_at, span_mapped_at, read_code_at, re
 
 use crate::relative;
 use arch::{Arch, RVA, VA};
-use refusal::{Answer, Number};
+use refusal::Refusal;
 
 // The offset of n bytes from the address `a`, at least one. Where one of them lies below the base or past 64 bits it is the last
 // offset of all, which no image has: they are not mapped.
@@ -31,7 +31,7 @@ pub fn span_at(size: u64, marks: &[u8], base: VA, a: VA, n: u64) -> bool
 }
 
 // The bytes from `address` on, as many as `buf` takes.
-pub fn read_into(image: &[u8], marks: &[u8], base: VA, address: VA, buf: &mut [u8]) -> Answer
+pub fn read_into(image: &[u8], marks: &[u8], base: VA, address: VA, buf: &mut [u8]) -> Result<(), Refusal>
     ensures { Leaves (read_code_at (length image.now) marks.now base.0 address.0 (length buf.old))
         buf.old (part image.now (address.0 - base.0) (length buf.old)) buf.new result }
 {
@@ -44,35 +44,35 @@ pub fn read_into(image: &[u8], marks: &[u8], base: VA, address: VA, buf: &mut [u
 }
 
 // The number of 1, 2, 4 or 8 bytes at `address`.
-pub fn read_u8(image: &[u8], marks: &[u8], base: VA, address: VA) -> Number
+pub fn read_u8(image: &[u8], marks: &[u8], base: VA, address: VA) -> Result<u64, Refusal>
     ensures { result ≡ read_number_at 1 image.now marks.now base.0 address.0 }
 {
     relative::read_u8(image, marks, offset_at(base, address, 1))
 }
 
 // Of two bytes.
-pub fn read_u16(image: &[u8], marks: &[u8], base: VA, address: VA) -> Number
+pub fn read_u16(image: &[u8], marks: &[u8], base: VA, address: VA) -> Result<u64, Refusal>
     ensures { result ≡ read_number_at 2 image.now marks.now base.0 address.0 }
 {
     relative::read_u16(image, marks, offset_at(base, address, 2))
 }
 
 // Of four bytes.
-pub fn read_u32(image: &[u8], marks: &[u8], base: VA, address: VA) -> Number
+pub fn read_u32(image: &[u8], marks: &[u8], base: VA, address: VA) -> Result<u64, Refusal>
     ensures { result ≡ read_number_at 4 image.now marks.now base.0 address.0 }
 {
     relative::read_u32(image, marks, offset_at(base, address, 4))
 }
 
 // Of eight bytes.
-pub fn read_u64(image: &[u8], marks: &[u8], base: VA, address: VA) -> Number
+pub fn read_u64(image: &[u8], marks: &[u8], base: VA, address: VA) -> Result<u64, Refusal>
     ensures { result ≡ read_number_at 8 image.now marks.now base.0 address.0 }
 {
     relative::read_u64(image, marks, offset_at(base, address, 8))
 }
 
 // A number of the machine's pointer size.
-pub fn read_pointer(image: &[u8], marks: &[u8], base: VA, arch: Arch, address: VA) -> Number
+pub fn read_pointer(image: &[u8], marks: &[u8], base: VA, arch: Arch, address: VA) -> Result<u64, Refusal>
     ensures { result ≡ read_number_at (pointer_size arch) image.now marks.now base.0 address.0 }
 {
     relative::read_pointer(
@@ -91,7 +91,7 @@ pub fn read_bytes(
     address: VA,
     n: usize,
     out: &mut [u8],
-) -> Answer
+) -> Result<(), Refusal>
     ensures { Leaves (bytes_code_at (length image.now) marks.now base.0 address.0 n (length out.old))
         out.old (splice out.old 0 (part image.now (address.0 - base.0) n)) out.new result }
 {

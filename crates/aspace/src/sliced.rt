@@ -9,7 +9,7 @@ ghost use Rattle.aspace.specs.Space.{read_number, bytes_code};
 
 use crate::relative;
 use arch::{Arch, RVA};
-use refusal::{Answer, Number};
+use refusal::Refusal;
 
 // The offset that far past the start; a sum past 64 bits is the last offset of all, which no image has.
 fn further(start: RVA, offset: RVA) -> RVA
@@ -23,7 +23,7 @@ fn further(start: RVA, offset: RVA) -> RVA
 }
 
 // The bytes from there on, as many as `buf` takes.
-pub fn read_into(image: &[u8], marks: &[u8], start: RVA, offset: RVA, buf: &mut [u8]) -> Answer
+pub fn read_into(image: &[u8], marks: &[u8], start: RVA, offset: RVA, buf: &mut [u8]) -> Result<(), Refusal>
     ensures { Leaves (read_code (length image.now) marks.now (start.0 + offset.0) (length buf.old))
         buf.old (part image.now (start.0 + offset.0) (length buf.old)) buf.new result }
 {
@@ -31,35 +31,35 @@ pub fn read_into(image: &[u8], marks: &[u8], start: RVA, offset: RVA, buf: &mut 
 }
 
 // The number of 1, 2, 4 or 8 bytes there.
-pub fn read_u8(image: &[u8], marks: &[u8], start: RVA, offset: RVA) -> Number
+pub fn read_u8(image: &[u8], marks: &[u8], start: RVA, offset: RVA) -> Result<u64, Refusal>
     ensures { result ≡ read_number 1 image.now marks.now (start.0 + offset.0) }
 {
     relative::read_u8(image, marks, further(start, offset))
 }
 
 // Of two bytes.
-pub fn read_u16(image: &[u8], marks: &[u8], start: RVA, offset: RVA) -> Number
+pub fn read_u16(image: &[u8], marks: &[u8], start: RVA, offset: RVA) -> Result<u64, Refusal>
     ensures { result ≡ read_number 2 image.now marks.now (start.0 + offset.0) }
 {
     relative::read_u16(image, marks, further(start, offset))
 }
 
 // Of four bytes.
-pub fn read_u32(image: &[u8], marks: &[u8], start: RVA, offset: RVA) -> Number
+pub fn read_u32(image: &[u8], marks: &[u8], start: RVA, offset: RVA) -> Result<u64, Refusal>
     ensures { result ≡ read_number 4 image.now marks.now (start.0 + offset.0) }
 {
     relative::read_u32(image, marks, further(start, offset))
 }
 
 // Of eight bytes.
-pub fn read_u64(image: &[u8], marks: &[u8], start: RVA, offset: RVA) -> Number
+pub fn read_u64(image: &[u8], marks: &[u8], start: RVA, offset: RVA) -> Result<u64, Refusal>
     ensures { result ≡ read_number 8 image.now marks.now (start.0 + offset.0) }
 {
     relative::read_u64(image, marks, further(start, offset))
 }
 
 // A number of the machine's pointer size.
-pub fn read_pointer(image: &[u8], marks: &[u8], arch: Arch, start: RVA, offset: RVA) -> Number
+pub fn read_pointer(image: &[u8], marks: &[u8], arch: Arch, start: RVA, offset: RVA) -> Result<u64, Refusal>
     ensures { result ≡ read_number (pointer_size arch) image.now marks.now (start.0 + offset.0) }
 {
     relative::read_pointer(image, marks, arch, further(start, offset))
@@ -73,7 +73,7 @@ pub fn read_bytes(
     offset: RVA,
     n: usize,
     out: &mut [u8],
-) -> Answer
+) -> Result<(), Refusal>
     ensures { Leaves (bytes_code (length image.now) marks.now (start.0 + offset.0) n (length out.old))
         out.old (splice out.old 0 (part image.now (start.0 + offset.0) n)) out.new result }
 {

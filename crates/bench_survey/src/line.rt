@@ -1,13 +1,13 @@
 // A survey's answer as a line.
 use survey::{Counts, Survey};
 
-pub(crate) fn answer(s: Survey) {
+pub(crate) fn answer(s: Result<Counts, Refusal>) {
     match s {
-        Survey::Accepted(c) => {
+        Ok(c) => {
             counts(c);
             of_the_file(c);
         }
-        Survey::Refused(k) => {
+        Err(k) => {
             part(b"refused ", k);
         }
     }

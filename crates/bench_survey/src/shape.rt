@@ -22,7 +22,7 @@ fn number(numbers: &[u32], i: u16, k: u8) -> u16 {
     x as u16
 }
 
-pub(crate) fn plan_at(numbers: &[u32], i: u16) -> Plan {
+pub(crate) fn plan_at(numbers: &[u32], i: u16) -> Result<(Counts, usize), Refusal> {
     let class = number(numbers, i, 7) % 256;
     Plan {
         sections: number(numbers, i, 0),

@@ -1,5 +1,5 @@
 // What stands behind a question; each part brings its own space.
-use refusal::{Answer, Number};
+use refusal::Refusal;
 
 // Bytes as they stand.
 pub fn text(s: &[u8]) {
@@ -83,17 +83,17 @@ pub fn refused(code: u64) {
 }
 
 // What an operation says that only writes.
-pub fn answer(a: Answer) {
+pub fn answer(a: Result<(), Refusal>) {
     match a {
-        Answer::Done => text(b" done"),
-        Answer::Refused(code) => refused(code),
+        Ok(()) => text(b" done"),
+        Err(code) => refused(code),
     }
 }
 
 // A number in hexadecimal, or the refusal.
-pub fn number(n: Number) {
+pub fn number(n: Result<u64, Refusal>) {
     match n {
-        Number::Value(v) => hex(v),
-        Number::Refusal(code) => refused(code),
+        Ok(v) => hex(v),
+        Err(code) => refused(code),
     }
 }

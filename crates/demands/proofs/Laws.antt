@@ -1,4 +1,6 @@
 -- The ways through the code. Assumes nothing.
+use Rattle.refusal.specs.declared.Refusal.{Refusal}
+use Rattle.std.specs.Prelude.{Result, Ok, Err}
 use mathlib.Core.Path.{◌≡◌, refl, sym, ap, ◌∙◌}
 use mathlib.Core.List.{List, [], ◌∷◌}
 use Prim.Native.Nat.{ℕ, zero, suc, ◌+◌, ◌*◌, ◌/◌, ◌≤◌, ◌<◌, min}
@@ -9,32 +11,30 @@ use Rattle.le.specs.Le.{get, splice, splice_next, length_splice}
 use Rattle.words.specs.Words.{word_bytes}
 use Rattle.refusal.specs.Refusal.{unless_refused}
 use Rattle.patch.specs.declared.answer.Progress.{Progress}
-use Rattle.patch.specs.declared.answer.Patch.{Patch}
-use Rattle.patch.specs.declared.answer.Patch.TheVariants.{Applied, Refused}
 use Rattle.patch.specs.Fixes.{length_from}
 use Rattle.patch.specs.Patch.{Patches}
 use Rattle.demands.specs.Calls.{Call, patch, after_call, answer_to, after_calls, answers_to}
 use Rattle.demands.specs.Running.{CALL_BYTES, POSITION_AT, ANSWER_BYTES, call_at, calls_to, calls_in, answer_words, answer_bytes, RunsCall, RunsTo, Runs, runs_are, after_one_more, answers_one_more, length_answers}
 
 -- ---- an answer
-pub answer_applied : (a : Patch) (p : Progress) (w at : ℕ) (l b : List ℕ) → a ≡ Applied p → w ≡ pick p.done 1 0 → b ≡ splice l at (word_bytes (0 ∷ p.position ∷ w ∷ []))
+pub answer_applied : (a : Result Progress Refusal) (p : Progress) (w at : ℕ) (l b : List ℕ) → a ≡ Ok p → w ≡ pick p.done 1 0 → b ≡ splice l at (word_bytes (0 ∷ p.position ∷ w ∷ []))
     → b ≡ splice l at (word_bytes (answer_words a))
 unfolding answer_words
 answer_applied a p w at l b e q d = rw (e, ← q) d
 
-pub answer_refused : (a : Patch) (n at : ℕ) (l b : List ℕ) → a ≡ Refused n → b ≡ splice l at (word_bytes (n ∷ 0 ∷ 0 ∷ [])) → b ≡ splice l at (word_bytes (answer_words a))
+pub answer_refused : (a : Result Progress Refusal) (n at : ℕ) (l b : List ℕ) → a ≡ Err n → b ≡ splice l at (word_bytes (n ∷ 0 ∷ 0 ∷ [])) → b ≡ splice l at (word_bytes (answer_words a))
 unfolding answer_words
 answer_refused a n at l b e d = rw e d
 
 pub ruleset answering = (answer_applied, answer_refused)
 
 -- ---- a call
-pub call_is : (base : ℕ) (marks fixes words : List ℕ) (k number position : ℕ) (image image' answers answers' : List ℕ) (r : Patch)
+pub call_is : (base : ℕ) (marks fixes words : List ℕ) (k number position : ℕ) (image image' answers answers' : List ℕ) (r : Result Progress Refusal)
     → number ≡ get 8 words (CALL_BYTES * k) → position ≡ get 8 words (CALL_BYTES * k + POSITION_AT) → Patches base marks fixes number position image image' r
     → answers' ≡ splice answers (ANSWER_BYTES * k) (word_bytes (answer_words r)) → RunsCall base marks fixes (call_at words k) (ANSWER_BYTES * k) image image' answers answers'
 unfolding after_call answer_to
 call_is base marks fixes words k number position image image' answers answers' r n p x a =
-    record { leaves = rw (← n, ← p) x.leaves; says = a ∙ ap (λ (t : Patch). splice answers (ANSWER_BYTES * k) (word_bytes (answer_words t))) (rw (← n, ← p) x.says) }
+    record { leaves = rw (← n, ← p) x.leaves; says = a ∙ ap (λ (t : Result Progress Refusal). splice answers (ANSWER_BYTES * k) (word_bytes (answer_words t))) (rw (← n, ← p) x.says) }
 
 -- ---- the loop
 module _ (base : ℕ) (marks fixes words image answers : List ℕ) where

@@ -1,5 +1,7 @@
 -- What any list of patch calls leaves, if none is refused but for its position: the applied fixups, one after another. For any base, marks and fix list.
-use Rattle.std.specs.Prelude.{◌≡◌, true, false, leb}
+use Rattle.patch.specs.declared.answer.Progress.{Progress}
+use Rattle.refusal.specs.declared.Refusal.{Refusal}
+use Rattle.std.specs.Prelude.{◌≡◌, true, false, leb, Result, Ok, Err}
 use Rattle.std.proofs.Math.Path.{refl, sym, ap}
 use Rattle.std.proofs.Common.{◌∙◌}
 use mathlib.Core.List.{List, [], ◌∷◌, ◌++◌}
@@ -12,7 +14,6 @@ use Rattle.util.specs.Pick.{pick, yes_no, le_or_lt}
 use Rattle.words.specs.Picked.{chosen}
 use Rattle.le.specs.Le.{length_splice}
 use Rattle.refusal.specs.Refusal.{POSITION, unless_refused}
-use Rattle.patch.specs.declared.answer.Patch.{Patch}
 use Rattle.patch.specs.Fixes.{fix_count, fixed, fixed_from}
 use Rattle.patch.specs.Patch.{portion, patch_code, patch_answer}
 use Rattle.demands.specs.Calls.{Call, patch, asked, applied_by, applied, after_call, answer_to, after_calls, answers_to}
@@ -27,11 +28,11 @@ abbrev pub plain_code : ℕ → ℕ → ℕ
 plain_code count position = pick (leb position count) 0 POSITION
 
 -- patch's answer then
-unfoldable pub plain_answer : ℕ → Call → Patch
+unfoldable pub plain_answer : ℕ → Call → Result Progress Refusal
 plain_answer count (patch number position) = patch_answer (plain_code count position) count number position
 
 -- the answers to a list of calls, by the list's count alone
-unfoldable pub plain_answers : ℕ → List Call → List Patch
+unfoldable pub plain_answers : ℕ → List Call → List (Result Progress Refusal)
 plain_answers count [] = []
 plain_answers count (c ∷ cs) = plain_answer count c ∷ plain_answers count cs
 

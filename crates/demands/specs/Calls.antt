@@ -1,7 +1,8 @@
 -- The calls that follow a load: which fixups they apply, and what the program's contracts say they do (01, "Patch").
-use Rattle.std.specs.Prelude.{Bool, ◌&&◌, List, [], ◌∷◌, ◌++◌, ℕ, ◌+◌, leb, ltb, length}
+use Rattle.patch.specs.declared.answer.Progress.{Progress}
+use Rattle.refusal.specs.declared.Refusal.{Refusal}
+use Rattle.std.specs.Prelude.{Bool, ◌&&◌, List, [], ◌∷◌, ◌++◌, ℕ, ◌+◌, leb, ltb, length, Result, Ok, Err}
 use Rattle.words.specs.Picked.{chosen}
-use Rattle.patch.specs.declared.answer.Patch.{Patch}
 use Rattle.patch.specs.Fixes.{fix_count}
 use Rattle.patch.specs.Patch.{patch_code, patch_answer, patched}
 
@@ -31,7 +32,7 @@ module _ (base : ℕ) (marks fixes : List ℕ) where
       patched (patch_code (length image) marks base fixes number position) base fixes image number position
 
   -- its answer
-  unfoldable pub answer_to : List ℕ → Call → Patch
+  unfoldable pub answer_to : List ℕ → Call → Result Progress Refusal
   answer_to image (patch number position) =
       patch_answer (patch_code (length image) marks base fixes number position) (fix_count fixes) number position
 
@@ -41,6 +42,6 @@ module _ (base : ℕ) (marks fixes : List ℕ) where
   after_calls image (c ∷ cs) = after_calls (after_call image c) cs
 
   -- their answers, in order
-  unfoldable pub answers_to : List ℕ → List Call → List Patch
+  unfoldable pub answers_to : List ℕ → List Call → List (Result Progress Refusal)
   answers_to image [] = []
   answers_to image (c ∷ cs) = answer_to image c ∷ answers_to (after_call image c) cs

@@ -1,5 +1,6 @@
 -- The request's first demand: every file that passes the checks is loaded whole, every other input gets the first refusal that applies, and then nothing has changed.
-use Rattle.std.specs.Prelude.{◌≡◌, refl, false, ℕ, suc, ◌-◌, eqb, leb, length}
+use Rattle.refusal.specs.declared.Refusal.{Refusal}
+use Rattle.std.specs.Prelude.{◌≡◌, refl, false, ℕ, suc, ◌-◌, eqb, leb, length, Result, Ok, Err}
 use Rattle.std.proofs.Common.{sym, ap, ◌∙◌, ⊎_elim, arith}
 use Rattle.std.proofs.Math.Bool.{true}
 use mathlib.Core.List.{List, [], ◌∷◌, ◌++◌}
@@ -9,12 +10,9 @@ use Rattle.limits.specs.Limits.{MAX_EXTERNS}
 use Rattle.externs.specs.Externs.{externs}
 use Rattle.refusal.specs.Refusal.{EXTERNS, TARGET, PLACE, STORAGE}
 use Rattle.survey.specs.declared.answer.Counts.{Counts}
-use Rattle.survey.specs.declared.answer.Survey.TheVariants.{Accepted, Refused}
 use Rattle.survey.specs.Survey.{Check, check, first_failed, extern_checks, target_checks, tally, checks, counts, survey_of}
 use Rattle.survey.specs.SurveyLaws.{check_holds, checks_hold, ordered, ordered_rest, records_rest, tells_accepted, tells_refused}
 use Rattle.checks.specs.Checks.{base_ok}
-use Rattle.loading.specs.declared.answer.Load.{Load}
-use Rattle.loading.specs.declared.answer.Load.TheVariants as load
 use Rattle.storage.specs.Storage.{Storage, stored}
 use Rattle.loading.specs.Load.{room_ok, load_checks, load_answer, Loads}
 use Rattle.load.specs.LoadLaws.{load_refused, load_tells_refused}
@@ -55,7 +53,7 @@ refusal_is_first (c ∷ cs) n e =
     (yes_no c.passes)
 
 -- ---- survey
-pub survey_refuses : (f : List ℕ) (n : ℕ) → survey_of f ≡ Refused (suc n) → FirstFailure (checks f (header_of f)) (suc n)
+pub survey_refuses : (f : List ℕ) (n : ℕ) → survey_of f ≡ Err (suc n) → FirstFailure (checks f (header_of f)) (suc n)
 survey_refuses f n e =
     refusal_is_first (checks f (header_of f)) n (tells_refused (first_failed (checks f (header_of f))) (counts f (header_of f)) (suc n) e).0
 
@@ -66,13 +64,13 @@ module _ (f : List ℕ) (base : ℕ) (s s' : Storage) where
     pub first : FirstFailure (load_checks f (header_of f) base s) n
     pub unchanged : s' ≡ s
 
-  pub load_refuses : (n : ℕ) → Loads f base s s' (load.Refused (suc n)) → Refuses (suc n)
+  pub load_refuses : (n : ℕ) → Loads f base s s' (Err (suc n)) → Refuses (suc n)
   load_refuses n loads =
       let t = load_tells_refused (first_failed (load_checks f (header_of f) base s)) (counts f (header_of f)) (suc n) (sym loads.says) in
       record { first = refusal_is_first (load_checks f (header_of f) base s) n t.0; unchanged = load_refused f base s s' (suc n) loads }
 
   -- a file that survey accepts is loaded whole at every allowed base into storage that has room
-  module _ (c : Counts) (accepted : survey_of f ≡ Accepted c) (allowed : base_ok base ≡ true) (room : room_ok c s ≡ true) where
+  module _ (c : Counts) (accepted : survey_of f ≡ Ok c) (allowed : base_ok base ≡ true) (room : room_ok c s ≡ true) where
     told : (first_failed (checks f (header_of f)) ≡ 0) × (counts f (header_of f) ≡ c)
     told = tells_accepted (first_failed (checks f (header_of f))) (counts f (header_of f)) c accepted
 
@@ -109,11 +107,11 @@ module _ (f : List ℕ) (base : ℕ) (s s' : Storage) where
         ))
 
     -- load says so, and the storage holds everything
-    pub record Does (r : Load) : Type 0 where
-      pub says : r ≡ load.Loaded c
+    pub record Does (r : Result Counts Refusal) : Type 0 where
+      pub says : r ≡ Ok c
       pub leaves : s' ≡ stored f (header_of f) base s
 
-    pub load_does : (r : Load) → Loads f base s s' r → Does r
+    pub load_does : (r : Result Counts Refusal) → Loads f base s s' r → Does r
     unfolding load_answer pick
     load_does r loads =
-        record { says = loads.says ∙ rw no_failure (ap load.Loaded told.1); leaves = rw no_failure at loads.leaves }
+        record { says = loads.says ∙ rw no_failure (ap Ok told.1); leaves = rw no_failure at loads.leaves }

@@ -1,6 +1,7 @@
 -- Of the request's second demand: where our modules stay, the value is PE/COFF's too. (Layout, homes, slots, symbols, fixups and skips as the Rust has them are the definitions themselves;
 -- docs/CLAIMS.md lists them.) What the standard adds and takes away is read off the file: nothing of it is the loader's own answer.
-use Rattle.std.specs.Prelude.{◌≡◌, refl, true, List, ◌⊎◌, eqb, leb, length, None, Option, Some}
+use Rattle.refusal.specs.declared.Refusal.{Refusal}
+use Rattle.std.specs.Prelude.{◌≡◌, refl, true, List, ◌⊎◌, eqb, leb, length, None, Option, Some, Result, Ok, Err}
 use Rattle.std.proofs.Math.Path.{sym}
 use Rattle.std.proofs.Common.{ap, ◌∙◌, inl, inr, leb-true}
 use Rattle.std.proofs.Math.Logic.{⊎_elim}
@@ -45,7 +46,6 @@ use Rattle.fixups.specs.ValueLaws.{Exact}
 use Rattle.fixups.specs.ListLaws.{every_fixup}
 use Rattle.fixups.specs.OutcomeLaws.{Reaches, fix_from}
 use Rattle.survey.specs.declared.answer.Counts.{Counts}
-use Rattle.survey.specs.declared.answer.Survey.TheVariants.{Accepted}
 use Rattle.survey.specs.Survey.{outcomes, survey_of}
 use Rattle.survey.specs.Acceptance.{fixups_exact}
 use Rattle.limits.specs.Limits.{MAX_BASE, SLOT_SIZE}
@@ -270,7 +270,7 @@ same_value : (k k' : RelocationKind) (a a' base s s' p p' z start : ℕ) → k �
 same_value k k' a a' base s s' p p' z start e₁ e₂ e₃ e₄ e₅ = rw (e₁, e₂, e₃, e₄, e₅)
 
 -- the standard's value of a fixup of an accepted file is ours, at every allowed base, if its relocation and its symbol stay where our modules do
-pub standard_of_file : (f : List ℕ) (c : Counts) → survey_of f ≡ Accepted c → (base : ℕ) → base_ok base ≡ true
+pub standard_of_file : (f : List ℕ) (c : Counts) → survey_of f ≡ Ok c → (base : ℕ) → base_ok base ≡ true
     → (k : ℕ) → k < length (fixups_of f) → (r : From f (fixup_at f k)) → Stays f r.section r.index
     → standard_at f r.section r.index base ≡ fixup_value f base k
 unfolding base_ok

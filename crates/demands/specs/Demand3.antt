@@ -1,5 +1,7 @@
 -- The request's third demand, one claim about any list of patch calls that follows an accepted load, and about the same load at any other allowed base.
-use Rattle.std.specs.Prelude.{◌≡◌, true, false, List, ℕ, ◌+◌, ◌-◌, ◌*◌, ◌/◌, ◌%◌, ◌≤◌, ◌<◌, eqb, leb, pos, length, get_or, replicate}
+use Rattle.patch.specs.declared.answer.Progress.{Progress}
+use Rattle.refusal.specs.declared.Refusal.{Refusal}
+use Rattle.std.specs.Prelude.{◌≡◌, true, false, List, ℕ, ◌+◌, ◌-◌, ◌*◌, ◌/◌, ◌%◌, ◌≤◌, ◌<◌, eqb, leb, pos, length, get_or, replicate, Result, Ok, Err}
 use Rattle.std.proofs.Math.Path.{refl}
 use Rattle.std.proofs.Common.{sym, ap, ◌∙◌, arith, leb-true}
 use Rattle.std.proofs.Math.Logic.{⊎_elim}
@@ -18,12 +20,10 @@ use Rattle.fixups.specs.Value.{is_relative}
 use Rattle.fixups.specs.ValueLaws.{Exact, relative_stays, other_rises, no_bit_lost}
 use Rattle.words.specs.Words.{word_of}
 use Rattle.survey.specs.declared.answer.Counts.{Counts}
-use Rattle.survey.specs.declared.answer.Survey.TheVariants.{Accepted}
 use Rattle.survey.specs.Survey.{survey_of}
 use Rattle.survey.specs.Acceptance.{pages_few, names_few}
 use Rattle.survey.specs.Acceptance.{fixups_exact, fixups_inside}
 use Rattle.image.specs.LaidLaws.{length_laid}
-use Rattle.patch.specs.declared.answer.Patch.{Patch}
 use Rattle.patch.specs.Fixes.{fix_count, place_at, bits_at, value_at, width_of}
 use Rattle.patch.specs.Patch.{patch_code}
 use Rattle.limits.specs.Limits.{MAX_PAGES, MAX_BASE}
@@ -44,7 +44,7 @@ abbrev pub image_after : ℕ → Lent → List Call → List ℕ
 image_after base t calls = after_calls base t.marks t.fixes t.image calls
 
 -- their answers
-abbrev pub answers_after : ℕ → Lent → List Call → List Patch
+abbrev pub answers_after : ℕ → Lent → List Call → List (Result Progress Refusal)
 answers_after base t calls = answers_to base t.marks t.fixes t.image calls
 
 -- the fixups that the calls apply, the latest last: by their numbers and positions and the list's count alone
@@ -100,7 +100,7 @@ pub base_low : (base : ℕ) → base_ok base ≡ true → base ≤ MAX_BASE
 unfolding base_ok
 base_low base e = leb-true base MAX_BASE (and_right (eqb (base % PAGE_SIZE) 0) (leb base MAX_BASE) e)
 
-module _ (f : List ℕ) (c : Counts) (accepted : survey_of f ≡ Accepted c) where
+module _ (f : List ℕ) (c : Counts) (accepted : survey_of f ≡ Ok c) where
   few : pages_of f ≤ MAX_PAGES
   few = pages_few f c accepted
 

@@ -1,5 +1,7 @@
 -- The theorems of the demands with their hypotheses met: by the small object of 01's table, and where it costs nothing more by every file.
-use Rattle.std.specs.Prelude.{◌≡◌, refl, true, List, ℕ, ◌*◌, ◌<◌, leb, ltb, eqb, length, get_or, replicate}
+use Rattle.nearest.specs.declared.Routine.{Routine}
+use Rattle.refusal.specs.declared.Refusal.{Refusal}
+use Rattle.std.specs.Prelude.{◌≡◌, refl, true, List, ℕ, ◌*◌, ◌<◌, leb, ltb, eqb, length, get_or, replicate, Result, Ok, Err}
 use Rattle.std.proofs.Common.{sym, inr, ⊎_elim, arith, le-leb, ltb-true}
 use Rattle.std.proofs.lemmas.List.{length-replicate}
 use Rattle.std.proofs.Math.ListN.{get_or-eq_default}
@@ -36,19 +38,14 @@ use Rattle.fixups.specs.Outcome.{by_kind, resolved, outcome_at, outcome}
 use Rattle.targets.specs.Target.{home_target, slot_target, rule_target, target_of}
 use Rattle.object.specs.Relocation.{relocation_in}
 use Rattle.survey.specs.declared.answer.Counts.{Counts}
-use Rattle.survey.specs.declared.answer.Survey.TheVariants.{Accepted}
 use Rattle.survey.specs.Survey.{first_failed, checks, counts, survey_of}
 use Rattle.survey.specs.Acceptance.{IsFixed, no_skips_all_fixed}
 use Rattle.marks.specs.Marks.{WORD_BYTES, words_for}
 use Rattle.checks.specs.Checks.{base_ok}
 use Rattle.symbols.specs.Symbol.{last_to}
-use Rattle.nearest.specs.declared.RoutineAnswer.{RoutineAnswer}
-use Rattle.nearest.specs.declared.RoutineAnswer.TheVariants.{Found, Refused}
 use Rattle.nearest.specs.Nearest.{qualifies, is_greatest, with_distance}
 use Rattle.module.specs.Questions.{first_of}
 use Rattle.module.specs.Routine.{of_holder, routine, table_sections}
-use Rattle.loading.specs.declared.answer.Load.{Load}
-use Rattle.loading.specs.declared.answer.Load.TheVariants as load
 use Rattle.plan.specs.Plan.{layout_room, lists_room}
 use Rattle.storage.specs.Storage.{Storage, storage, stored}
 use Rattle.loading.specs.Load.{room_ok, load_checks, load_answer, Loads}
@@ -66,7 +63,7 @@ use Rattle.demands.specs.Demand1.{FirstFailure, survey_refuses, Refuses, load_re
 
 -- ---- load's contract is met for every file, base and storage
 -- by this answer
-abbrev pub load_says : List ℕ → ℕ → Storage → Load
+abbrev pub load_says : List ℕ → ℕ → Storage → Result Counts Refusal
 load_says f base s = load_answer (first_failed (load_checks f (header_of f) base s)) (counts f (header_of f))
 
 -- and these contents
@@ -82,7 +79,7 @@ pub small_refused : FirstFailure (checks (small_with 12285) (header_of (small_wi
 small_refused = survey_refuses (small_with 12285) 10 table.past_the_end
 
 -- any file and storage at base 0x7F001000: 12, and the storage is as it was
-pub base_loads : (f : List ℕ) (s : Storage) → Loads f 0x7F001000 s s (load.Refused 12)
+pub base_loads : (f : List ℕ) (s : Storage) → Loads f 0x7F001000 s s (Err 12)
 unfolding load_answer pick
 base_loads f s = record { says = rw (table.base_refused f s); leaves = rw (table.base_refused f s) }
 
@@ -112,8 +109,8 @@ roomy_fits c =
     )
 
 -- ---- every file that survey accepts is loaded, at every allowed base, into every storage with room
-pub accepted_loads : (f : List ℕ) (base : ℕ) (s : Storage) (c : Counts) → survey_of f ≡ Accepted c → base_ok base ≡ true → room_ok c s ≡ true
-    → Loads f base s (stored f (header_of f) base s) (load.Loaded c)
+pub accepted_loads : (f : List ℕ) (base : ℕ) (s : Storage) (c : Counts) → survey_of f ≡ Ok c → base_ok base ≡ true → room_ok c s ≡ true
+    → Loads f base s (stored f (header_of f) base s) (Ok c)
 accepted_loads f base s c a b r =
     let d = load_does f base s (left_by f base s) c a b r (load_says f base s) (loads_exists f base s) in
     record { says = sym d.says; leaves = sym d.leaves }
@@ -131,11 +128,11 @@ unfolding base_ok
 small_base = refl
 
 -- at 0x20000000
-pub small_loads : Loads small_object 0x20000000 small_storage (small_left 0x20000000) (load.Loaded small_counts)
+pub small_loads : Loads small_object 0x20000000 small_storage (small_left 0x20000000) (Ok small_counts)
 small_loads = accepted_loads small_object 0x20000000 small_storage small_counts table.small small_base (roomy_fits small_counts)
 
 -- at the highest base
-pub small_loads_highest : Loads small_object 0x7F000000 small_storage (small_left 0x7F000000) (load.Loaded small_counts)
+pub small_loads_highest : Loads small_object 0x7F000000 small_storage (small_left 0x7F000000) (Ok small_counts)
 small_loads_highest = accepted_loads small_object 0x7F000000 small_storage small_counts table.small table.base_taken (roomy_fits small_counts)
 
 -- what later calls are given is the counted parts
@@ -194,14 +191,14 @@ pub small_traced : (x : ℕ) → FileSays small_object 0x20000000 (part (small_l
 small_traced = load_traced small_object small_bytes 0x20000000 small_storage (small_left 0x20000000) small_counts small_loads
 
 -- _topup is at 0x20000000, and .text has 16 bytes; behind them nothing holds an address, and UNDEF has no symbol
-abbrev pub small_routine : ℕ → RoutineAnswer
+abbrev pub small_routine : ℕ → Result Routine Refusal
 small_routine x = routine (table_sections (sections_of small_object 0x20000000)) (symbols_of small_object 0x20000000) (va x)
 
 pub record SmallRoutines : Type 0 where
-  pub inside : small_routine 0x20000004 ≡ Found (record { symbol = 0; distance = 4 })
-  pub last_byte : small_routine 0x2000000F ≡ Found (record { symbol = 0; distance = 15 })
-  pub behind : small_routine 0x20000010 ≡ Refused 19
-  pub undef : small_routine 0x20001000 ≡ Refused 21
+  pub inside : small_routine 0x20000004 ≡ Ok (record { symbol = 0; distance = 4 })
+  pub last_byte : small_routine 0x2000000F ≡ Ok (record { symbol = 0; distance = 15 })
+  pub behind : small_routine 0x20000010 ≡ Err 19
+  pub undef : small_routine 0x20001000 ≡ Err 21
 
 pub small_routines : SmallRoutines
 unfolding pick all_to count_to list_to get le header_of loaded_by permissions_by file_start file_end range_length align_of round_up is_function code_or_data kind_by zero_place place_by listed_by left_after auxiliaries_left primary

@@ -1,5 +1,6 @@
 -- What load's contract leaves is what the demands speak of: the counted parts follow from the file and the base, whatever the storage held before.
-use Rattle.std.specs.Prelude.{◌≡◌, true, List, ℕ, ◌*◌, ◌≤◌, ◌<◌, length, replicate}
+use Rattle.refusal.specs.declared.Refusal.{Refusal}
+use Rattle.std.specs.Prelude.{◌≡◌, true, List, ℕ, ◌*◌, ◌≤◌, ◌<◌, length, replicate, Result, Ok, Err}
 use Rattle.std.proofs.Common.{sym, subst, ◌∙◌, arith, zero-add, ext_get_or}
 use Rattle.std.proofs.lemmas.List.{length-replicate}
 use Rattle.arch.specs.Page.{PAGE_SIZE}
@@ -10,8 +11,6 @@ use Rattle.homes.specs.Home.{section_home}
 use Rattle.limits.specs.Limits.{MAX_PAGES, MAX_EXTERNS}
 use Rattle.limits.specs.Records.{FIXUP_BYTES, EXTERN_BYTES, SECTION_BYTES}
 use Rattle.survey.specs.declared.answer.Counts.{Counts}
-use Rattle.survey.specs.declared.answer.Survey.TheVariants.{Accepted}
-use Rattle.loading.specs.declared.answer.Load.TheVariants.{Loaded}
 use Rattle.survey.specs.Survey.{survey_of}
 use Rattle.marks.specs.Marks.{WORD_BYTES, words_for}
 use Rattle.image.specs.Laid.{laid_image}
@@ -50,7 +49,7 @@ module _ (f : List ℕ) (base : ℕ) (image : List ℕ) (few : pages_of f ≤ MA
 
 -- ---- the parts that later calls are given
 pub record Lends (f : List ℕ) (base : ℕ) (s' : Storage) (c : Counts) : Type 0 where
-  pub accepted : survey_of f ≡ Accepted c
+  pub accepted : survey_of f ≡ Ok c
   pub allowed : base_ok base ≡ true
   pub image : part s'.image 0 (PAGE_SIZE * c.pages) ≡ image_of f base
   pub marks : part s'.marks 0 (WORD_BYTES * words_for c.pages) ≡ marks_of f
@@ -59,7 +58,7 @@ pub record Lends (f : List ℕ) (base : ℕ) (s' : Storage) (c : Counts) : Type 
   pub sections : part s'.sections 0 (SECTION_BYTES * c.sections) ≡ sections_of f base
   pub externs : part s'.externs 0 (EXTERN_BYTES * c.externs) ≡ externs_of f base
 
-pub load_lends : (f : List ℕ) (base : ℕ) (s s' : Storage) (c : Counts) → Loads f base s s' (Loaded c) → Lends f base s' c
+pub load_lends : (f : List ℕ) (base : ℕ) (s s' : Storage) (c : Counts) → Loads f base s s' (Ok c) → Lends f base s' c
 load_lends f base s s' c loads =
     let a = load_accepts f base s s' c loads in
     let l = load_leaves f base s s' c loads in
@@ -85,8 +84,8 @@ lent_from s c =
 lent_is : (f : List ℕ) (base : ℕ) (s : Storage) (c : Counts) → Lends f base s c → lent_from s c ≡ lent_of f base
 lent_is f base s c l = rw (l.image, l.marks, l.fixes, l.sections, l.externs)
 
-pub load_demand_3 : (f : List ℕ) (b₁ : ℕ) (s₁ s₁' : Storage) (c₁ : Counts) → Loads f b₁ s₁ s₁' (Loaded c₁)
-    → (b₂ : ℕ) (s₂ s₂' : Storage) (c₂ : Counts) → Loads f b₂ s₂ s₂' (Loaded c₂)
+pub load_demand_3 : (f : List ℕ) (b₁ : ℕ) (s₁ s₁' : Storage) (c₁ : Counts) → Loads f b₁ s₁ s₁' (Ok c₁)
+    → (b₂ : ℕ) (s₂ s₂' : Storage) (c₂ : Counts) → Loads f b₂ s₂ s₂' (Ok c₂)
     → (calls : List Call) → Demand3 f b₁ b₂ (lent_from s₁' c₁) (lent_from s₂' c₂) calls
 load_demand_3 f b₁ s₁ s₁' c₁ loads₁ b₂ s₂ s₂' c₂ loads₂ calls =
     let l = load_lends f b₁ s₁ s₁' c₁ loads₁ in

@@ -1,5 +1,6 @@
 -- Load's tables, read word by word: they say where the loaded sections, UNDEF and the slots lie, as the origins have it.
-use Rattle.std.specs.Prelude.{◌≡◌, ◌&&◌, List, ℕ, ◌+◌, ◌*◌, ◌≤◌, ◌<◌, leb, length}
+use Rattle.refusal.specs.declared.Refusal.{Refusal}
+use Rattle.std.specs.Prelude.{◌≡◌, ◌&&◌, List, ℕ, ◌+◌, ◌*◌, ◌≤◌, ◌<◌, leb, length, Result, Ok, Err}
 use Rattle.std.proofs.Common.{subst, ◌∙◌, arith}
 use Rattle.std.proofs.Math.Bool.{true}
 use Rattle.std.proofs.Math.Logic.{⊎_elim}
@@ -22,7 +23,6 @@ use Rattle.externs.specs.Externs.{externs}
 use Rattle.words.specs.Words.{word_of}
 use Rattle.tables.specs.TableLaws.{SectionAt, UndefAt, ExternAt, sections_fill, section_read, undef_read, length_externs, extern_read}
 use Rattle.survey.specs.declared.answer.Counts.{Counts}
-use Rattle.survey.specs.declared.answer.Survey.TheVariants.{Accepted}
 use Rattle.survey.specs.Survey.{survey_of}
 use Rattle.survey.specs.Acceptance.{records_ordered, pages_few, names_few}
 use Rattle.demands.specs.Origin.{slots_of, section_address, undef_address, slot_value}
@@ -41,7 +41,7 @@ pub record UndefRead (f : List ℕ) (base : ℕ) (table : List ℕ) : Type 0 whe
   pub start : word_of SECTION_WORDS table (record_of f (header_of f) (header_of f).sections) SECTION_START ≡ undef_address f base
   pub end : word_of SECTION_WORDS table (record_of f (header_of f) (header_of f).sections) SECTION_END ≡ undef_address f base + PAGE_SIZE
 
-module _ (f : List ℕ) (c : Counts) (accepted : survey_of f ≡ Accepted c) (base : ℕ) (low : base ≤ MAX_BASE) where
+module _ (f : List ℕ) (c : Counts) (accepted : survey_of f ≡ Ok c) (base : ℕ) (low : base ≤ MAX_BASE) where
   abbrev h : Header
   h = header_of f
 

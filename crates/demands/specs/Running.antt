@@ -1,5 +1,7 @@
 -- A list of calls in lent words, run by the program.
-use Rattle.std.specs.Prelude.{◌≡◌, true, length, get_or}
+use Rattle.patch.specs.declared.answer.Progress.{Progress}
+use Rattle.refusal.specs.declared.Refusal.{Refusal}
+use Rattle.std.specs.Prelude.{◌≡◌, true, length, get_or, Result, Ok, Err}
 use Rattle.std.proofs.Math.Path.{refl, sym, ap}
 use Rattle.std.proofs.Common.{◌∙◌}
 use mathlib.Core.List.{List, [], ◌∷◌, ◌++◌, append_assoc, append-nil}
@@ -11,10 +13,7 @@ use Rattle.arch.specs.Page.{PAGE_SIZE}
 use Rattle.le.specs.Le.{get, splice}
 use Rattle.words.specs.Words.{word_bytes, length_words}
 use Rattle.survey.specs.declared.answer.Counts.{Counts}
-use Rattle.survey.specs.declared.answer.Survey.TheVariants.{Accepted}
 use Rattle.survey.specs.Survey.{survey_of}
-use Rattle.patch.specs.declared.answer.Patch.{Patch}
-use Rattle.patch.specs.declared.answer.Patch.TheVariants.{Applied, Refused}
 use Rattle.checks.specs.Checks.{base_ok}
 use Rattle.demands.specs.Calls.{Call, patch, after_call, answer_to, after_calls, answers_to}
 use Rattle.demands.specs.Origin.{origin, byte_of}
@@ -43,12 +42,12 @@ abbrev pub ANSWER_BYTES : ℕ
 ANSWER_BYTES = 24
 
 -- the three words of one answer
-unfoldable pub answer_words : Patch → List ℕ
-answer_words (Applied p) = 0 ∷ p.position ∷ pick p.done 1 0 ∷ []
-answer_words (Refused n) = n ∷ 0 ∷ 0 ∷ []
+unfoldable pub answer_words : Result Progress Refusal → List ℕ
+answer_words (Ok p) = 0 ∷ p.position ∷ pick p.done 1 0 ∷ []
+answer_words (Err n) = n ∷ 0 ∷ 0 ∷ []
 
 -- of all answers, one behind another
-unfoldable pub answer_bytes : List Patch → List ℕ
+unfoldable pub answer_bytes : List (Result Progress Refusal) → List ℕ
 answer_bytes [] = []
 answer_bytes (a ∷ l) = word_bytes (answer_words a) ++ answer_bytes l
 
@@ -62,7 +61,7 @@ FromOrigins f base calls image = (d : ℕ) → d < PAGE_SIZE * pages_of f → ge
 
 -- what running the calls leaves, of the file's load at the base: its bytes are their origins', the answers those at any other base, and demand 3 holds
 -- of both
-pub record RunOfLoad (f : List ℕ) (base : ℕ) (calls : List Call) (image' : List ℕ) (said : List Patch) (b₂ : ℕ) : Type 0 where
+pub record RunOfLoad (f : List ℕ) (base : ℕ) (calls : List Call) (image' : List ℕ) (said : List (Result Progress Refusal)) (b₂ : ℕ) : Type 0 where
   pub bytes : FromOrigins f base calls image'
   pub answers : said ≡ answers_after b₂ (lent_of f b₂) calls
   pub demand : Demand3 f base b₂ (lent_of f base) (lent_of f b₂) calls
@@ -71,7 +70,7 @@ pub record RunOfLoad (f : List ℕ) (base : ℕ) (calls : List Call) (image' : L
 pub record Runs (base : ℕ) (marks fixes : List ℕ) (calls : List Call) (image image' answers answers' : List ℕ) : Type 0 where
   pub leaves : image' ≡ after_calls base marks fixes image calls
   pub says : answers' ≡ splice answers 0 (answer_bytes (answers_to base marks fixes image calls))
-  pub demand : (f : List ℕ) (c : Counts) → survey_of f ≡ Accepted c → base_ok base ≡ true → image ≡ image_of f base → marks ≡ marks_of f → fixes ≡ fix_table_of f base
+  pub demand : (f : List ℕ) (c : Counts) → survey_of f ≡ Ok c → base_ok base ≡ true → image ≡ image_of f base → marks ≡ marks_of f → fixes ≡ fix_table_of f base
       → (b₂ : ℕ) → base_ok b₂ ≡ true → RunOfLoad f base calls image' (answers_to base marks fixes image calls) b₂
 
 pub runs_are : (base : ℕ) (marks fixes : List ℕ) (calls : List Call) (image image' answers answers' : List ℕ) → image' ≡ after_calls base marks fixes image calls
@@ -115,14 +114,14 @@ module _ (base : ℕ) (marks fixes : List ℕ) where
       → answers_to base marks fixes image (xs ++ ys) ≡ answers_to base marks fixes image xs ++ answers_to base marks fixes (after_calls base marks fixes image xs) ys
   unfolding answers_to after_calls
   answers_both [] ys image = refl
-  answers_both (x ∷ xs) ys image = ap (λ (l : List Patch). answer_to base marks fixes image x ∷ l) (answers_both xs ys (after_call base marks fixes image x))
+  answers_both (x ∷ xs) ys image = ap (λ (l : List (Result Progress Refusal)). answer_to base marks fixes image x ∷ l) (answers_both xs ys (after_call base marks fixes image x))
 
-  length_one : (a : Patch) → length (word_bytes (answer_words a)) ≡ ANSWER_BYTES
+  length_one : (a : Result Progress Refusal) → length (word_bytes (answer_words a)) ≡ ANSWER_BYTES
   unfolding answer_words
-  length_one (Applied p) = length_words (0 ∷ p.position ∷ pick p.done 1 0 ∷ [])
-  length_one (Refused n) = length_words (n ∷ 0 ∷ 0 ∷ [])
+  length_one (Ok p) = length_words (0 ∷ p.position ∷ pick p.done 1 0 ∷ [])
+  length_one (Err n) = length_words (n ∷ 0 ∷ 0 ∷ [])
 
-  bytes_both : (xs ys : List Patch) → answer_bytes (xs ++ ys) ≡ answer_bytes xs ++ answer_bytes ys
+  bytes_both : (xs ys : List (Result Progress Refusal)) → answer_bytes (xs ++ ys) ≡ answer_bytes xs ++ answer_bytes ys
   unfolding answer_bytes
   bytes_both [] ys = refl
   bytes_both (x ∷ xs) ys = ap (λ (l : List ℕ). word_bytes (answer_words x) ++ l) (bytes_both xs ys) ∙ sym (append_assoc (word_bytes (answer_words x)) (answer_bytes xs) (answer_bytes ys))

@@ -1,11 +1,11 @@
 -- 01's table of single facts ("A small object" and below), each over the definitions that the contracts use. What an object can show is shown on
 -- one: computed, or where it is long by the laws of `examples`.
-use Rattle.std.specs.Prelude.{◌≡◌, refl, true, false, List, [], ◌∷◌, ◌++◌, ℕ, ◌+◌, ◌*◌, ◌≤◌, length, get_or, Some}
+use Rattle.refusal.specs.declared.Refusal.{Refusal}
+use Rattle.std.specs.Prelude.{◌≡◌, refl, true, false, List, [], ◌∷◌, ◌++◌, ℕ, ◌+◌, ◌*◌, ◌≤◌, length, get_or, Some, Result, Ok, Err}
 use Rattle.std.proofs.Common.{ap, ◌∙◌, arith, le-leb}
 use Rattle.arch.specs.declared.Arch.TheVariants.{X64}
 use Rattle.arch.specs.Address.{rva}
 use Rattle.survey.specs.declared.answer.Counts.{Counts}
-use Rattle.survey.specs.declared.answer.Survey.TheVariants.{Accepted, Refused}
 use Rattle.survey.specs.Survey.{survey_of, extern_checks, first_failed, counts_by, answer_by}
 use Rattle.fixups.specs.Outcome.{fix_of, by_kind, resolved, outcome_at, outcome}
 use Rattle.tables.specs.Sections.{section_words, undef_words}
@@ -146,30 +146,30 @@ most_words = ap (fix_words 0x20000000) most_fixup
 -- ---- the table
 pub record Table : Type 0 where
   -- the small object at 0x20000000: layout, symbol, slot, and the fixup with its value
-  pub small : survey_of small_object ≡ Accepted small_counts
+  pub small : survey_of small_object ≡ Ok small_counts
   pub small_text : section_words small_object (header_of small_object) 0x20000000 (section_home small_object (header_of small_object)) 0 ≡ 0x20000000 ∷ 0x20000010 ∷ 60 ∷ 66 ∷ 5 ∷ 20 ∷ 5 ∷ 1 ∷ []
   pub small_undef : undef_words 0x20000000 (undef_start small_object (header_of small_object)) ≡ 0x20001000 ∷ 0x20002000 ∷ 0 ∷ 0 ∷ 1 ∷ 0 ∷ 0 ∷ 0 ∷ []
   pub small_symbol : symbol_words small_object (header_of small_object) 0x20000000 (section_home small_object (header_of small_object)) (home_record small_object (header_of small_object)) 0 ≡ 0x20000000 ∷ 1 ∷ 76 ∷ 6 ∷ 0 ∷ 0 ∷ []
   pub small_slot : extern_words small_object (header_of small_object) 0x20000000 (undef_start small_object (header_of small_object)) (externs small_object (header_of small_object)) 0 ≡ 0x20001000 ∷ 1 ∷ 94 ∷ 6 ∷ []
   pub small_fixup : fix_words 0x20000000 (fixup_at small_object 0) ≡ 0x20000001 ∷ 32 ∷ 4091 ∷ []
   -- 19 bytes, whatever they are: 1
-  pub bytes_19 : (f : List ℕ) → length f ≡ 19 → survey_of f ≡ Refused 1
+  pub bytes_19 : (f : List ℕ) → length f ≡ 19 → survey_of f ≡ Err 1
   -- an empty i386 header: 2 pages
-  pub empty : survey_of empty_object ≡ Accepted (counts_with 2 1 0 0 0 0 0 0)
+  pub empty : survey_of empty_object ≡ Ok (counts_with 2 1 0 0 0 0 0 0)
   -- ranges by size and alignment code
   pub size_1_code_0 : range_of (sized 1 0) ≡ 16
   pub size_1_code_1 : range_of (sized 1 1) ≡ 1
   pub size_1_code_14 : range_of (sized 1 14) ≡ 8192
   pub size_4097_code_0 : range_of (sized 4097 0) ≡ 4112
   -- 4,094 section pages are accepted, 4,095 refused: 8
-  pub pages_4094 : survey_of (sized (4096 * 4094) 1) ≡ Accepted (counts_with 4096 2 0 0 0 1 0 0)
-  pub pages_4095 : survey_of (sized (4096 * 4095) 1) ≡ Refused 8
+  pub pages_4094 : survey_of (sized (4096 * 4094) 1) ≡ Ok (counts_with 4096 2 0 0 0 1 0 0)
+  pub pages_4095 : survey_of (sized (4096 * 4095) 1) ≡ Err 8
   -- 1,024 sections whose records lie in the file pass 3, and 1,025 are refused by it, whatever follows (02, N2)
   pub sections_1024 : (f : List ℕ) (h : Header) → h.sections ≡ 1024 → section_header_at h 1024 ≤ length f → section_table_ok f h ≡ true
-  pub sections_1025 : (f : List ℕ) → size_ok f ≡ true → machine_ok (header_of f) ≡ true → (header_of f).sections ≡ 1025 → survey_of f ≡ Refused 3
+  pub sections_1025 : (f : List ℕ) → size_ok f ≡ true → machine_ok (header_of f) ≡ true → (header_of f).sections ≡ 1025 → survey_of f ≡ Err 3
   -- 1,024 names are accepted, 1,025 refused: 9
-  pub names_1024 : survey_of most_names ≡ Accepted (counts_with 3 2 0 1024 1024 1 1024 1024)
-  pub names_1025 : survey_of (names_object 1025 1025) ≡ Refused 9
+  pub names_1024 : survey_of most_names ≡ Ok (counts_with 3 2 0 1024 1024 1 1024 1024)
+  pub names_1025 : survey_of (names_object 1025 1025) ≡ Err 9
   -- the last slot is at UNDEF + 4,092, with symbol 1,023; the last fixup takes its address
   pub last_slot : (base : ℕ) → last_name base ≡ (undef_address most_names base + 4092) ∷ 1023 ∷ 32810 ∷ 3 ∷ []
   pub last_fixup : fix_words 0x20000000 (fixup_at most_names 1023) ≡ 0x20000FFC ∷ 32 ∷ 0x20001FFC ∷ []
@@ -183,8 +183,8 @@ pub record Table : Type 0 where
   pub base_taken : base_ok 0x7F000000 ≡ true
   pub base_refused : (f : List ℕ) (s : Storage) → first_failed (load_checks f (header_of f) 0x7F001000 s) ≡ 12
   -- a 32-bit fixup 4 bytes before the last mapped end is taken, one 3 bytes before it refused: 11
-  pub last_place : survey_of (small_with 12284) ≡ Accepted small_counts
-  pub past_the_end : survey_of (small_with 12285) ≡ Refused 11
+  pub last_place : survey_of (small_with 12284) ≡ Ok small_counts
+  pub past_the_end : survey_of (small_with 12285) ≡ Err 11
 
 most_sections : (f : List ℕ) (h : Header) → h.sections ≡ 1024 → section_header_at h 1024 ≤ length f → section_table_ok f h ≡ true
 unfolding section_table_ok
@@ -194,7 +194,7 @@ no_table : (f : List ℕ) (h : Header) → h.sections ≡ 1025 → section_table
 unfolding section_table_ok
 no_table f h e = rw e
 
-more_sections : (f : List ℕ) → size_ok f ≡ true → machine_ok (header_of f) ≡ true → (header_of f).sections ≡ 1025 → survey_of f ≡ Refused 3
+more_sections : (f : List ℕ) → size_ok f ≡ true → machine_ok (header_of f) ≡ true → (header_of f).sections ≡ 1025 → survey_of f ≡ Err 3
 unfolding first_failed pick answer_by
 more_sections f s m e = rw (s, m, no_table f (header_of f) e)
 
@@ -260,7 +260,7 @@ small_patched = (demand_3 small_object small_counts table.small 0x20000000 0x200
 
 -- ---- two uninitialised sections have two homes, and a fixup to a symbol of the second has the standard's value (02, N3)
 pub record TwoUninitialized : Type 0 where
-  pub accepted : survey_of two_uninitialized ≡ Accepted (counts_with 4 3 1 0 1 2 1 1)
+  pub accepted : survey_of two_uninitialized ≡ Ok (counts_with 4 3 1 0 1 2 1 1)
   pub first : section_home two_uninitialized (header_of two_uninitialized) 0 ≡ Some (rva 0)
   pub second : section_home two_uninitialized (header_of two_uninitialized) 1 ≡ Some (rva 0x1000)
   pub ours : fixup_value two_uninitialized 0x20000000 0 ≡ 0x20001000

@@ -1,5 +1,7 @@
 -- The routine of an address, asked of the tables that an accepted load leaves (02, N1): the answer in terms of the file's own records.
-use Rattle.std.specs.Prelude.{◌≡◌, refl, Bool, List, ◌⊎◌, ℕ, zero, suc, ◌+◌, ◌-◌, ◌*◌, ◌/◌, ◌^◌, ◌≤◌, ◌<◌, leb, ltb, None, Option, Some}
+use Rattle.nearest.specs.declared.Routine.{Routine}
+use Rattle.refusal.specs.declared.Refusal.{Refusal}
+use Rattle.std.specs.Prelude.{◌≡◌, refl, Bool, List, ◌⊎◌, ℕ, zero, suc, ◌+◌, ◌-◌, ◌*◌, ◌/◌, ◌^◌, ◌≤◌, ◌<◌, leb, ltb, None, Option, Some, Result, Ok, Err}
 use Rattle.std.proofs.Common.{sym, subst, ◌∙◌, eq-or-lt_of_le}
 use Rattle.std.proofs.Math.Path.{ap}
 use Rattle.std.proofs.Math.Bool.{true, false}
@@ -33,7 +35,6 @@ use Rattle.words.specs.Picked.{Chosen, chosen, chosen_is, length_chosen}
 use Rattle.symbol_table.specs.SymbolLaws.{SymbolAt, symbol_read, symbols_fill}
 use Rattle.tables.specs.TableLaws.{sections_fill}
 use Rattle.survey.specs.declared.answer.Counts.{Counts}
-use Rattle.survey.specs.declared.answer.Survey.TheVariants.{Accepted}
 use Rattle.survey.specs.Survey.{survey_of}
 use Rattle.survey.specs.SurveyLaws.{fits_is}
 use Rattle.survey.specs.Surveying.{Fits}
@@ -41,15 +42,12 @@ use Rattle.survey.specs.Acceptance.{records_ordered, pages_few}
 use Rattle.section.specs.declared.Section.{Section}
 use Rattle.section.specs.Section.{holds, within}
 use Rattle.symbols.specs.Symbol.{symbol_count}
-use Rattle.nearest.specs.declared.RoutineAnswer.{RoutineAnswer}
-use Rattle.nearest.specs.declared.RoutineAnswer.TheVariants.{Found, Refused}
 use Rattle.module.specs.Questions.{section_at, blank, nth}
 use Rattle.module.specs.Routine.{routine, table_sections}
 use Rattle.module.specs.RoutineLaws.{Holder, Unheld, InRoutine, WithoutSymbol}
 use Rattle.module.proofs.RoutineLaws.{found_is_routine, refused_is}
 use Rattle.storage.specs.Storage.{Storage}
 use Rattle.loading.specs.Load.{Loads}
-use Rattle.loading.specs.declared.answer.Load.TheVariants.{Loaded}
 use Rattle.load.specs.LoadLaws.{load_accepts, load_leaves}
 use Rattle.demands.specs.Origin.{section_address, undef_address, in_section}
 use Rattle.demands.specs.Counted.{sections_of, symbols_of}
@@ -115,9 +113,9 @@ abbrev pub NoHolder : List ℕ → ℕ → ℕ → Type 0
 NoHolder f base x = (r : ℕ) → HeldBy f base x r → ⊥
 
 -- of each answer; there is no other refusal
-unfoldable pub FileSays : List ℕ → ℕ → List ℕ → ℕ → RoutineAnswer → Type 0
-FileSays f base symbols x (Found a) = RoutineInFile f base symbols x a.symbol a.distance
-FileSays f base symbols x (Refused n) = ((n ≡ NO_SECTION) × NoHolder f base x) ⊎ ((n ≡ NO_ROUTINE) × NoSymbolBelow f base x)
+unfoldable pub FileSays : List ℕ → ℕ → List ℕ → ℕ → Result Routine Refusal → Type 0
+FileSays f base symbols x (Ok a) = RoutineInFile f base symbols x a.symbol a.distance
+FileSays f base symbols x (Err n) = ((n ≡ NO_SECTION) × NoHolder f base x) ⊎ ((n ≡ NO_ROUTINE) × NoSymbolBelow f base x)
 
 -- ---- what the words of the symbol table have room for
 offset_most : (w : Option RVA) (v m : ℕ) → ((o : RVA) → w ≡ Some o → o.0 ≤ m) → offset_from w v ≤ m + v
@@ -161,7 +159,7 @@ module _ (f : List ℕ) (h : Header) where
   value_fits b j = let v : symbol_value f h j < 2 ^ 32 = get_below 4 f (symbol_record_at h j + VALUE_AT) b in pick_either (λ (z : ℕ). z < 2 ^ 32) _ (symbol_value f h j) 0 (λ _. v) (omega arith)
 
 -- ---- the two tables of an accepted file, at an allowed base; each element of the file is a byte, as in every slice of bytes
-module _ (f : List ℕ) (bytes : IsBytes f) (c : Counts) (accepted : survey_of f ≡ Accepted c) (base : ℕ) (low : base ≤ MAX_BASE) where
+module _ (f : List ℕ) (bytes : IsBytes f) (c : Counts) (accepted : survey_of f ≡ Ok c) (base : ℕ) (low : base ≤ MAX_BASE) where
   abbrev h : Header
   h = header_of f
 
@@ -295,10 +293,10 @@ module _ (f : List ℕ) (bytes : IsBytes f) (c : Counts) (accepted : survey_of f
               w.none (count_to (is_listed f) m) (rw symbols_count (count_below (is_listed f) h.symbols m l t)) (v.home_is ∙ q) (rw v.address a);
         }
 
-    by_answer : (a : RoutineAnswer) → routine table (symbols_of f base) (va x) ≡ a → FileSays f base (symbols_of f base) x a
+    by_answer : (a : Result Routine Refusal) → routine table (symbols_of f base) (va x) ≡ a → FileSays f base (symbols_of f base) x a
     unfolding FileSays
-    by_answer (Found a) e = found_in_file a.symbol a.distance (found_is_routine table (symbols_of f base) (va x) a.symbol a.distance e)
-    by_answer (Refused n) e =
+    by_answer (Ok a) e = found_in_file a.symbol a.distance (found_is_routine table (symbols_of f base) (va x) a.symbol a.distance e)
+    by_answer (Err n) e =
         ⊎_elim (λ r. inl (r.0, none_held r.1)) (λ r. inr (r.0, none_in_file r.1)) (refused_is table (symbols_of f base) (va x) n e)
 
     -- every answer is what the file says
@@ -306,10 +304,10 @@ module _ (f : List ℕ) (bytes : IsBytes f) (c : Counts) (accepted : survey_of f
     traced = by_answer (routine table (symbols_of f base) (va x)) refl
 
 -- ---- of the tables that a load left in its storage: the counted parts, as the host gives them to `nelgrauf_routine`
-abbrev pub asked_after : Storage → Counts → ℕ → RoutineAnswer
+abbrev pub asked_after : Storage → Counts → ℕ → Result Routine Refusal
 asked_after s c x = routine (table_sections (part s.sections 0 (SECTION_BYTES * c.sections))) (part s.symbols 0 (SYMBOL_BYTES * c.symbols)) (va x)
 
-pub load_traced : (f : List ℕ) → IsBytes f → (base : ℕ) (s s' : Storage) (c : Counts) → Loads f base s s' (Loaded c) → (x : ℕ)
+pub load_traced : (f : List ℕ) → IsBytes f → (base : ℕ) (s s' : Storage) (c : Counts) → Loads f base s s' (Ok c) → (x : ℕ)
     → FileSays f base (part s'.symbols 0 (SYMBOL_BYTES * c.symbols)) x (asked_after s' c x)
 load_traced f bytes base s s' c loads x =
     let a = load_accepts f base s s' c loads in

@@ -24,15 +24,15 @@ fn flag(done: bool) -> u64
     if done { 1 } else { 0 }
 }
 
-fn write_answer(answer: Patch, answers: &mut [u8], at: usize)
+fn write_answer(answer: Result<Progress, Refusal>, answers: &mut [u8], at: usize)
     ensures { answers.new ≡ splice answers.old at (word_bytes (answer_words answer)) }
 {
     match answer {
-        Patch::Applied(p) => {
+        Ok(p) => {
             let ws = [0, p.position, flag(p.done)];
             words::put(answers, at, &ws);
         }
-        Patch::Refused(number) => {
+        Err(number) => {
             let ws = [number, 0, 0];
             words::put(answers, at, &ws);
         }

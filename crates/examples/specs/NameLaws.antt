@@ -1,6 +1,8 @@
 -- The names of `names_object` are good, and they rise with the numbers of their symbols.
+use Rattle.names.specs.declared.Name.{Name}
+use Rattle.names.specs.Name.{good_name}
 use Rattle.std.specs.Ordering.{Less, Greater}
-use Rattle.std.specs.Prelude.{◌≡◌, true, false, List, ℕ, ◌+◌, ◌*◌, ◌/◌, ◌%◌, ◌≤◌, ◌<◌, eqb, length, get_or}
+use Rattle.std.specs.Prelude.{◌≡◌, true, false, List, ℕ, ◌+◌, ◌*◌, ◌/◌, ◌%◌, ◌≤◌, ◌<◌, eqb, length, get_or, Option, None}
 use Rattle.std.proofs.Common.{sym, ◌∙◌, ⊎_elim, ext_get_or}
 use Rattle.std.proofs.Math.Path.{ap}
 use native.Mathlib.Omega.{arith}
@@ -11,7 +13,6 @@ use Rattle.util.specs.Prefix.{all_to}
 use Rattle.le.specs.Le.{get, part, part_at, length_part}
 use Rattle.object.specs.declared.Header.{Header}
 use Rattle.object.specs.Format.{symbol_record_at}
-use Rattle.names.specs.declared.Name.TheVariants.{Good}
 use Rattle.chars.specs.Chars.{good_section_name, good_symbol_name}
 use Rattle.chars.specs.GoodLaws.{visible_good}
 use Rattle.names.specs.Bytes.{run, up_to_zero, compare_bytes}
@@ -93,7 +94,7 @@ module _ (n m : ℕ) (names : n ≤ MAX_NAMES) where
     run_is = sym (run_long f (at k) 8) ∙ ap (λ (l : List ℕ). length l) run_text
 
     -- it is good: three bytes at the record's start
-    pub name_is : symbol_name f h k ≡ Good (symbols_at m + 18 * k) 3
+    pub name_is : symbol_name f h k ≡ good_name (symbols_at m + 18 * k) 3
     unfolding symbol_run checked pick
     name_is = let p : part f (at k) 3 ≡ name_text k = rw run_is at run_text in rw (not_long, not_zero, run_is, p, text_good k (omega arith))
 

@@ -1,6 +1,9 @@
 -- What `names_object` comes to, for every n from 1 on and every m from n to 32,768: with up to 1,024 names it is accepted, and the last slot is at
 -- UNDEF + 4 * (n - 1); with more, up to 4,096, it is refused by 9.
-use Rattle.std.specs.Prelude.{◌≡◌, Bool, true, false, List, [], ◌∷◌, ◌++◌, length, get_or, Some}
+use Rattle.refusal.specs.declared.Refusal.TheVariants.{Externs}
+use Rattle.survey.specs.declared.answer.Counts.{Counts}
+use Rattle.refusal.specs.declared.Refusal.{Refusal}
+use Rattle.std.specs.Prelude.{◌≡◌, Bool, true, false, List, [], ◌∷◌, ◌++◌, length, get_or, Some, Result, Ok, Err}
 use Rattle.std.proofs.Math.Path.{refl}
 use Rattle.std.proofs.Common.{ap, ◌∙◌, arith}
 use Rattle.std.proofs.Math.Bool.{and-false}
@@ -14,7 +17,6 @@ use Rattle.arch.specs.Address.{rva}
 use Rattle.arch.specs.Machine.{arch_of}
 use Rattle.arch.specs.Page.{PAGE_SIZE}
 use Rattle.limits.specs.Limits.{MAX_EXTERNS, MAX_RELOCATIONS, SLOT_SIZE}
-use Rattle.refusal.specs.Refusal.{EXTERNS}
 use Rattle.kinds.specs.Types.{type32, type_of}
 use Rattle.object.specs.declared.Header.{Header}
 use Rattle.object.specs.Format.{header_of}
@@ -36,7 +38,6 @@ use Rattle.fixups.specs.declared.Outcome.TheVariants.{Fixup}
 use Rattle.fixups.specs.Outcome.{by_kind, resolved, outcome_at, outcome}
 use Rattle.fixups.specs.Lists.{over_records, append_step, fix_at_record, fix_list}
 use Rattle.fixups.specs.Tally.{is_passed, is_skipped, is_refused, is_fixup, is_outside, count_step, how_many, tally_of}
-use Rattle.survey.specs.declared.answer.Survey.TheVariants.{Accepted, Refused}
 use Rattle.survey.specs.Survey.{first_failed, extern_checks, target_checks, outcomes, tally, counts_by, counts, checks, answer_by, survey_of}
 use Rattle.survey.specs.SurveyLaws.{records_rest}
 use Rattle.examples.specs.NamesObject.{MAX_NAMES, symbols_at, names_object, names_header, text_pages, slot_at, names_fix, names_counts}
@@ -170,17 +171,17 @@ module _ (n m : ℕ) (some : 1 ≤ n) (names : n ≤ MAX_NAMES) (all : n ≤ m) 
   pub last_target : (names_fix n m (m - 1)).target ≡ rva (undef_start f (header_of f) + SLOT_SIZE * (n - 1))
   last_target = let e : min (m - 1) (n - 1) ≡ n - 1 = omega arith in rw (names_header_lem n m names most, undef_is n m names most, e)
 
-  accepted : n ≤ MAX_EXTERNS → survey_of f ≡ Accepted (names_counts n m)
+  accepted : n ≤ MAX_EXTERNS → survey_of f ≡ Ok (names_counts n m)
   unfolding answer_by first_failed pick
   accepted few = rw (names_header_lem n m names most, counts_are, rest_is, le-leb n MAX_EXTERNS few, tally_is)
 
-  refused : MAX_EXTERNS < n → survey_of f ≡ Refused EXTERNS
+  refused : MAX_EXTERNS < n → survey_of f ≡ Err Externs
   unfolding answer_by first_failed pick
   refused many = rw (names_header_lem n m names most, rest_is, lt-leb n MAX_EXTERNS many)
 
 -- ---- survey's answer
-pub names_accepted : (n m : ℕ) → 1 ≤ n → n ≤ MAX_EXTERNS → n ≤ m → m ≤ MAX_RELOCATIONS → survey_of (names_object n m) ≡ Accepted (names_counts n m)
+pub names_accepted : (n m : ℕ) → 1 ≤ n → n ≤ MAX_EXTERNS → n ≤ m → m ≤ MAX_RELOCATIONS → survey_of (names_object n m) ≡ Ok (names_counts n m)
 names_accepted n m some few all most = accepted n m some (omega arith) all most few
 
-pub names_refused : (n m : ℕ) → MAX_EXTERNS < n → n ≤ MAX_NAMES → n ≤ m → m ≤ MAX_RELOCATIONS → survey_of (names_object n m) ≡ Refused EXTERNS
+pub names_refused : (n m : ℕ) → MAX_EXTERNS < n → n ≤ MAX_NAMES → n ≤ m → m ≤ MAX_RELOCATIONS → survey_of (names_object n m) ≡ Err Externs
 names_refused n m many names all most = refused n m (omega arith) names all most many

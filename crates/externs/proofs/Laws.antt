@@ -1,4 +1,5 @@
 -- The ways through the readers, and the loops over the list of externs. Assumes nothing.
+use Rattle.refusal.specs.declared.Refusal.{Refusal}
 use Rattle.std.specs.Prelude.{None, Option, Some, Err, Ok, Result}
 use Rattle.std.specs.Ordering.{Ordering, Less, Equal, Greater}
 use Rattle.le.specs.Le.{splice, splice_next, splice_above, fill_none, fill_again, fill_end, IsBytes}
@@ -35,8 +36,6 @@ use Rattle.externs.specs.Inserting.{Rising, min_name, rise, rising_at}
 use Rattle.externs.specs.Slot.{slot_of}
 use Rattle.externs.specs.Slotted.{found_code, takes_slot, settled, slotted_code, slotted_at, slotted_to}
 use Rattle.codes.specs.Code.{NO_SLOT, SPAN, SLOTS}
-use Rattle.externs.specs.declared.Names.{Names}
-use Rattle.externs.specs.declared.Names.TheVariants.{TooMany, Count}
 
 -- ---- the place of j: the names of xs before i all come before j's
 unfoldable pub Passed : List ℕ → Header → ℕ → List ℕ → ℕ → Type 0
@@ -364,15 +363,15 @@ pub ruleset shift_loop = (shift_none, shift_more, shift_end)
 
 -- ---- what the answer says
 module _ (ys l : List ℕ) where
-  pub holds_over : MAX_EXTERNS < length ys → Holds ys l TooMany
+  pub holds_over : MAX_EXTERNS < length ys → Holds ys l None
   unfolding Holds
   holds_over k = k
 
-  pub holds_count : (n : ℕ) → n ≤ MAX_EXTERNS → held n l ≡ ys → Holds ys l (Count n)
+  pub holds_count : (n : ℕ) → n ≤ MAX_EXTERNS → held n l ≡ ys → Holds ys l (Some n)
   unfolding Holds held
   holds_count n k e = (k, e)
 
-  pub held_list : (r : Names) (n : ℕ) → Holds ys l r → r ≡ Count n → held n l ≡ ys
+  pub held_list : (r : Option ℕ) (n : ℕ) → Holds ys l r → r ≡ Some n → held n l ≡ ys
   unfolding held
   held_list r n q e = count_list ys l r q n e
 

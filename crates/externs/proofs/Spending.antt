@@ -1,5 +1,6 @@
 -- The loops that gather the names: over the records of a section, and over the sections; what is left in the codes meanwhile. Assumes nothing.
-use Rattle.std.specs.Prelude.{Option}
+use Rattle.refusal.specs.declared.Refusal.{Refusal}
+use Rattle.std.specs.Prelude.{Option, Result, Ok, Err, Some, None}
 use mathlib.Core.Path.{◌≡◌, refl, sym, ap, ◌∙◌, fun_ext}
 use mathlib.Core.Bool.{Bool, true, false}
 use mathlib.Core.List.{List, [], ◌∷◌, ◌++◌}
@@ -24,8 +25,6 @@ use Rattle.object.specs.Section.{relocation_count}
 use Rattle.object.specs.Relocation.{relocation_symbol, relocation_in, records_of, record_at, record_bytes, count_read, symbol_read, symbol_part}
 use Rattle.names.specs.Name.{symbol_text}
 use Rattle.codes.specs.Code.{SLOT, EXTERN, UNDEF_RECORD, UNDEF_EXTERN, is_extern, puts_in}
-use Rattle.externs.specs.declared.Names.{Names}
-use Rattle.externs.specs.declared.Names.TheVariants.{TooMany, Count}
 use Rattle.externs.specs.Externs.{insert_name, extern_step, extern_records, externs_to, Holds, names_of, slot_words}
 use Rattle.externs.specs.ExternLaws.{records_grow, sections_grow, records_rise, records_keep, over_length, count_room, count_list}
 use Rattle.externs.specs.Held.{held, Inserted}
@@ -264,7 +263,7 @@ module _ (f : List ℕ) (h : Header) (old : List ℕ) (i : ℕ) (start : List �
           rw (add-one, puts, ← symbol, ← q) y.list
 
       pub records_over : (z : List ℕ) → k < rs.count → n ≤ MAX_EXTERNS → MAX_EXTERNS < length l → length a ≡ length l → MAX_EXTERNS < m
-          → Holds (extern_records f h (puts_in old) i start (relocation_count f h i)) z TooMany
+          → Holds (extern_records f h (puts_in old) i start (relocation_count f h i)) z None
       records_over z lt few room same over =
           holds_over (extern_records f h (puts_in old) i start (relocation_count f h i)) z
           (omega (
@@ -314,7 +313,7 @@ module _ (f : List ℕ) (h : Header) (old : List ℕ) (i : ℕ) (start : List �
             (records_one new l a n k m b x read does sure s q y)
 
     pub records_end : (k n : ℕ) (l : List ℕ) → k ≤ rs.count → rs.count ≤ k → n ≤ MAX_EXTERNS → held n l ≡ extern_records f h (puts_in old) i start k
-        → Holds (extern_records f h (puts_in old) i start (relocation_count f h i)) l (Count n)
+        → Holds (extern_records f h (puts_in old) i start (relocation_count f h i)) l (Some n)
     records_end k n l a b few q =
         let e : k ≡ relocation_count f h i = let z = count_read f h i rs is in omega arith in
         holds_count (extern_records f h (puts_in old) i start (relocation_count f h i)) l n few (rw e at q)
@@ -325,15 +324,15 @@ pub records_spent : (f : List ℕ) (h : Header) (old new new' l a : List ℕ) (n
 records_spent f h old new new' l a n j m b does sure s y e = spends_more f h old new (held n l) s j new' (held m a) (sym does ∙ sure) e y.list
 
 module _ (f : List ℕ) (h : Header) (old new l ks : List ℕ) where
-  pub left_over : LeftFor f h old new l ks TooMany
+  pub left_over : LeftFor f h old new l ks None
   unfolding LeftFor
   left_over = tt
 
-  pub left_count : (n : ℕ) → Kept f h l ks n → Spends f h old new (held n l) → LeftFor f h old new l ks (Count n)
+  pub left_count : (n : ℕ) → Kept f h l ks n → Spends f h old new (held n l) → LeftFor f h old new l ks (Some n)
   unfolding LeftFor
   left_count n k s = record { list = k; codes = s }
 
-  left_of : (r : Names) (n : ℕ) → LeftFor f h old new l ks r → r ≡ Count n → Left f h old new l ks n
+  left_of : (r : Option ℕ) (n : ℕ) → LeftFor f h old new l ks r → r ≡ Some n → Left f h old new l ks n
   unfolding LeftFor
   left_of r n e q = rw q at e
 
@@ -345,16 +344,16 @@ module _ (f : List ℕ) (h : Header) (old : List ℕ) where
   unfolding fold_sections held
   externs_none l = refl
 
-  module _ (i n : ℕ) (l ks new a ks' new' : List ℕ) (r : Names) (kept : Kept f h l ks n) (s : Spends f h old new (held n l)) (q : held n l ≡ externs_to f h (puts_in old) i)
+  module _ (i n : ℕ) (l ks new a ks' new' : List ℕ) (r : Option ℕ) (kept : Kept f h l ks n) (s : Spends f h old new (held n l)) (q : held n l ≡ externs_to f h (puts_in old) i)
       (y : Holds (extern_records f h (puts_in new) i (held n l) (relocation_count f h i)) a r) where
     externs_suc : externs_to f h (puts_in old) (i + 1) ≡ extern_records f h (puts_in new) i (held n l) (relocation_count f h i)
     unfolding fold_sections
     externs_suc = rw (add-one, ← q) (sym (same_records f h old new (held n l) s i (relocation_count f h i) kept.rising))
 
-    pub externs_more : (c : ℕ) → r ≡ Count c → held c a ≡ externs_to f h (puts_in old) (i + 1)
+    pub externs_more : (c : ℕ) → r ≡ Some c → held c a ≡ externs_to f h (puts_in old) (i + 1)
     externs_more c e = held_list (extern_records f h (puts_in new) i (held n l) (relocation_count f h i)) a r c y e ∙ sym externs_suc
 
-    pub externs_over : (m t : ℕ) (b : List ℕ) → i < m → m ≡ t → r ≡ TooMany → Holds (externs_to f h (puts_in old) t) b TooMany
+    pub externs_over : (m t : ℕ) (b : List ℕ) → i < m → m ≡ t → r ≡ None → Holds (externs_to f h (puts_in old) t) b None
     externs_over m t b lt z e =
         holds_over (externs_to f h (puts_in old) t) b
         (omega (
@@ -364,7 +363,7 @@ module _ (f : List ℕ) (h : Header) (old : List ℕ) where
           sections_grow f h (puts_in old) (i + 1) t (omega arith),
         ))
 
-    module _ (c : ℕ) (e : r ≡ Count c) (z : LeftFor f h new new' a ks' r) where
+    module _ (c : ℕ) (e : r ≡ Some c) (z : LeftFor f h new new' a ks' r) where
       pub externs_kept : Kept f h a ks' c
       externs_kept = (left_of f h new new' a ks' r c z e).list
 
@@ -373,20 +372,20 @@ module _ (f : List ℕ) (h : Header) (old : List ℕ) where
           spends_on f h old new (held n l) s new' (held c a) (left_of f h new new' a ks' r c z e).codes
           (λ j p. rw (held_list (extern_records f h (puts_in new) i (held n l) (relocation_count f h i)) a r c y e) (records_keep f h (puts_in new) j i (held n l) (relocation_count f h i) p))
 
-  pub externs_end : (i m t n : ℕ) (l : List ℕ) → i ≤ m → m ≤ i → m ≡ t → n ≤ MAX_EXTERNS → held n l ≡ externs_to f h (puts_in old) i → Holds (externs_to f h (puts_in old) t) l (Count n)
+  pub externs_end : (i m t n : ℕ) (l : List ℕ) → i ≤ m → m ≤ i → m ≡ t → n ≤ MAX_EXTERNS → held n l ≡ externs_to f h (puts_in old) i → Holds (externs_to f h (puts_in old) t) l (Some n)
   externs_end i m t n l a b z few q = let e : i ≡ t = omega arith in holds_count (externs_to f h (puts_in old) t) l n few (rw e at q)
 
 pub ruleset externs_loop = (externs_none, externs_more, externs_over, externs_kept, externs_spent, externs_end, count_room, left_over, left_count, kept_none, spends_none)
 
 -- ---- the whole
-pub record Collected (f : List ℕ) (h : Header) (codes ys s codes' : List ℕ) (r : Names) : Type 0 where
+pub record Collected (f : List ℕ) (h : Header) (codes ys s codes' : List ℕ) (r : Option ℕ) : Type 0 where
   pub says : r ≡ names_of ys
   pub words : s ≡ slot_words ys
   pub long : length s ≡ EXTERN_ROOM
   pub slots : CodesAfter f h codes ys codes'
 
-module _ (f : List ℕ) (h : Header) (codes ys s t : List ℕ) (r : Names) (holds : Holds ys s r) (room : length s ≡ EXTERN_ROOM) where
-  pub kept_over : (left : List ℕ) → r ≡ TooMany → t ≡ splice s 0 (replicate (length s - 0) 0) → Collected f h codes ys t left TooMany
+module _ (f : List ℕ) (h : Header) (codes ys s t : List ℕ) (r : Option ℕ) (holds : Holds ys s r) (room : length s ≡ EXTERN_ROOM) where
+  pub kept_over : (left : List ℕ) → r ≡ None → t ≡ splice s 0 (replicate (length s - 0) 0) → Collected f h codes ys t left None
   unfolding slot_words pick
   kept_over left e d =
       let z : leb (length ys) MAX_EXTERNS ≡ false = lt-leb (length ys) MAX_EXTERNS (over_length ys s r holds e) in
@@ -394,15 +393,15 @@ module _ (f : List ℕ) (h : Header) (codes ys s t : List ℕ) (r : Names) (hold
       record { says = rw z; words = rw z w; long = rw w (length-replicate {A = ℕ} EXTERN_ROOM 0); slots = record { few = λ y. not_both (leb (length ys) MAX_EXTERNS) y z } }
 
   -- the first n words are the list
-  front_is : (n : ℕ) → r ≡ Count n → t ≡ splice s n (replicate (length s - n) 0) → part t 0 n ≡ ys
+  front_is : (n : ℕ) → r ≡ Some n → t ≡ splice s n (replicate (length s - n) 0) → part t 0 n ≡ ys
   unfolding part
   front_is n e d =
       let few = count_room ys s r holds n e in
       let list = count_list ys s r holds n e in
       ap (λ (x : List ℕ). take n x) (d ∙ cleared s n (omega arith)) ∙ take_at (take n s) (replicate (length s - n) 0) n (rw (length-take n s) (omega arith)) ∙ list
 
-  pub kept_few : (n : ℕ) (w ks left codes' : List ℕ) → r ≡ Count n → t ≡ splice s n (replicate (length s - n) 0) → w ≡ part t 0 n → LeftFor f h codes left s ks r → codes' ≡ slotted f h w left
-      → Collected f h codes ys t codes' (Count n)
+  pub kept_few : (n : ℕ) (w ks left codes' : List ℕ) → r ≡ Some n → t ≡ splice s n (replicate (length s - n) 0) → w ≡ part t 0 n → LeftFor f h codes left s ks r → codes' ≡ slotted f h w left
+      → Collected f h codes ys t codes' (Some n)
   unfolding slot_words pick
   kept_few n v ks left codes' e d q m p =
       let few = count_room ys s r holds n e in
@@ -422,7 +421,7 @@ module _ (f : List ℕ) (h : Header) (codes ys s t : List ℕ) (r : Names) (hold
       }
 
 -- the words that are kept rise, and the first keys are theirs
-pub front_keyed : (f : List ℕ) (h : Header) (codes left ys s t w ks : List ℕ) (r : Names) (n : ℕ) → LeftFor f h codes left s ks r → Holds ys s r → length s ≡ EXTERN_ROOM → r ≡ Count n
+pub front_keyed : (f : List ℕ) (h : Header) (codes left ys s t w ks : List ℕ) (r : Option ℕ) (n : ℕ) → LeftFor f h codes left s ks r → Holds ys s r → length s ≡ EXTERN_ROOM → r ≡ Some n
     → t ≡ splice s n (replicate (length s - n) 0) → w ≡ part t 0 n → Keyed f h w ks
 unfolding InStep held
 front_keyed f h codes left ys s t w ks r n p holds room e d q =

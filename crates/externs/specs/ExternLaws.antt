@@ -1,6 +1,7 @@
 -- What the list of externs is, for every file and every choice of the symbols that put their names: sorted, each name once, exactly the names put, with the lowest numbers.
+use Rattle.refusal.specs.declared.Refusal.{Refusal}
 use Rattle.std.specs.Ordering.{Less, Equal}
-use Rattle.std.specs.Prelude.{leb, ◌≡◌, Bool, get_or, take, replicate, Some}
+use Rattle.std.specs.Prelude.{leb, ◌≡◌, Bool, get_or, take, replicate, Some, Result, Ok, Err, Option, None}
 use Rattle.std.proofs.Common.{leb-true, leb-false, sym, ap, ◌∙◌, arith, length-take-le}
 use Rattle.std.proofs.Math.Path.{refl}
 use Rattle.std.proofs.Math.Bool.{true, false}
@@ -20,8 +21,6 @@ use Rattle.names.specs.Name.{symbol_text}
 use Rattle.names.specs.OrderLaws.{compare_self, equal_same}
 use Rattle.limits.specs.Limits.{MAX_EXTERNS, EXTERN_ROOM}
 use Rattle.externs.specs.Externs.{order_of, insert_name, extern_step, extern_records, externs_to, externs_by, Holds, names_of, slot_words}
-use Rattle.externs.specs.declared.Names.{Names}
-use Rattle.externs.specs.declared.Names.TheVariants.{TooMany, Count}
 use Rattle.externs.specs.Slot.{slot_of}
 use Rattle.externs.specs.SlotLaws.{Slot, slot_of_entry}
 use Rattle.externs.specs.Inserting.{In, Rising, Has, in_insert, rise, keep, put_in, insert_grows, member, index_of, rising_at, rising_once}
@@ -169,34 +168,34 @@ module _ (f : List ℕ) (h : Header) (puts : ℕ → Bool) where
 
 -- ---- what the answer of `collect` says of the list ys and the buffer
 -- what `collect` answers and leaves says so
-pub kept_holds : (ys s : List ℕ) (r : Names) → r ≡ names_of ys → s ≡ slot_words ys → Holds ys s r
+pub kept_holds : (ys s : List ℕ) (r : Option ℕ) → r ≡ names_of ys → s ≡ slot_words ys → Holds ys s r
 unfolding Holds slot_words pick
 kept_holds ys s r e d =
     ⊎_elim
     (λ t.
     let w : s ≡ ys ++ replicate (EXTERN_ROOM - length ys) 0 = rw t at d in
-    let c : r ≡ Count (length ys) = rw t at e in
+    let c : r ≡ Some (length ys) = rw t at e in
     rw (c, w) (leb-true (length ys) MAX_EXTERNS t, take-append_seam ys (replicate (EXTERN_ROOM - length ys) 0)))
-    (λ t. let c : r ≡ TooMany = rw t at e in rw c (leb-false (length ys) MAX_EXTERNS t))
+    (λ t. let c : r ≡ None = rw t at e in rw c (leb-false (length ys) MAX_EXTERNS t))
     (yes_no (leb (length ys) MAX_EXTERNS))
 
-module _ (ys slots : List ℕ) (r : Names) (q : Holds ys slots r) where
-  pub over_length : r ≡ TooMany → MAX_EXTERNS < length ys
+module _ (ys slots : List ℕ) (r : Option ℕ) (q : Holds ys slots r) where
+  pub over_length : r ≡ None → MAX_EXTERNS < length ys
   unfolding Holds
   over_length e = rw e at q
 
-  pub count_room : (n : ℕ) → r ≡ Count n → n ≤ MAX_EXTERNS
+  pub count_room : (n : ℕ) → r ≡ Some n → n ≤ MAX_EXTERNS
   unfolding Holds
   count_room n e = (rw e at q).0
 
   -- so they are a part of the buffer
-  pub count_fits : (n : ℕ) → r ≡ Count n → length slots ≡ EXTERN_ROOM → n ≤ length slots
+  pub count_fits : (n : ℕ) → r ≡ Some n → length slots ≡ EXTERN_ROOM → n ≤ length slots
   count_fits n e q = let k : n ≤ MAX_EXTERNS = count_room n e in omega arith
 
-  pub count_taken : (n : ℕ) → r ≡ Count n → length slots ≡ EXTERN_ROOM → length (take n slots) ≡ n
+  pub count_taken : (n : ℕ) → r ≡ Some n → length slots ≡ EXTERN_ROOM → length (take n slots) ≡ n
   count_taken n e q = length-take-le n slots (count_fits n e q)
 
-  pub count_list : (n : ℕ) → r ≡ Count n → take n slots ≡ ys
+  pub count_list : (n : ℕ) → r ≡ Some n → take n slots ≡ ys
   unfolding Holds
   count_list n e = (rw e at q).1
 

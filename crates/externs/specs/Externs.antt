@@ -1,6 +1,7 @@
 -- The extern list: symbol numbers in the order of their names, each name once, with the lowest number that put it there (01, "Layout, slots and fixups").
+use Rattle.refusal.specs.declared.Refusal.{Refusal}
 use Rattle.std.specs.Ordering.{Ordering, Less, Equal, Greater}
-use Rattle.std.specs.Prelude.{Bool, List, [], ◌∷◌, ◌++◌, ◌≡◌, ℕ, ◌-◌, ◌≤◌, ◌<◌, min, leb, length, take, replicate}
+use Rattle.std.specs.Prelude.{Bool, List, [], ◌∷◌, ◌++◌, ◌≡◌, ℕ, ◌-◌, ◌≤◌, ◌<◌, min, leb, length, take, replicate, Result, Ok, Err, Option, Some, None}
 use Rattle.util.specs.Pick.{pick}
 use Rattle.util.specs.Fold.{fold_records, fold_sections}
 use Rattle.object.specs.declared.Header.{Header}
@@ -9,10 +10,8 @@ use Rattle.object.specs.Relocation.{relocation_symbol}
 use Rattle.names.specs.Bytes.{compare_bytes}
 use Rattle.names.specs.Name.{symbol_text}
 use Rattle.limits.specs.Limits.{MAX_EXTERNS, EXTERN_ROOM}
-use Rattle.refusal.specs.Refusal.{EXTERNS}
+use Rattle.refusal.specs.Refusal.{Code, PASSES, EXTERNS}
 use Rattle.codes.specs.Puts as Puts
-use Rattle.externs.specs.declared.Names.{Names}
-use Rattle.externs.specs.declared.Names.TheVariants.{TooMany, Count}
 
 -- the order of two symbols' names
 abbrev pub order_of : List ℕ → Header → ℕ → ℕ → Ordering
@@ -50,19 +49,19 @@ abbrev pub externs : List ℕ → Header → List ℕ
 externs f h = externs_by f h (Puts.puts f h)
 
 -- how many names there are, or that there are too many (refusal 9)
-abbrev pub names_of : List ℕ → Names
-names_of ys = pick (leb (length ys) MAX_EXTERNS) (Count (length ys)) TooMany
+abbrev pub names_of : List ℕ → Option ℕ
+names_of ys = pick (leb (length ys) MAX_EXTERNS) (Some (length ys)) None
 
 -- the words that keep the list: zeros behind it, and nothing of one that is too long
 unfoldable pub slot_words : List ℕ → List ℕ
 slot_words ys = pick (leb (length ys) MAX_EXTERNS) (ys ++ replicate (EXTERN_ROOM - length ys) 0) (replicate EXTERN_ROOM 0)
 
 -- the refusal of each case (01, "Survey"), 0 where there is none
-abbrev pub names_refusal : Names → ℕ
-names_refusal TooMany = EXTERNS
-names_refusal (Count n) = 0
+abbrev pub names_refusal : Option ℕ → Code
+names_refusal None = EXTERNS
+names_refusal (Some n) = PASSES
 
 -- what a buffer that holds at most as many numbers as there may be names says of the list: too many, or its first n are the list
-unfoldable pub Holds : List ℕ → List ℕ → Names → Type 0
-Holds ys slots TooMany = MAX_EXTERNS < length ys
-Holds ys slots (Count n) = (n ≤ MAX_EXTERNS) × (take n slots ≡ ys)
+unfoldable pub Holds : List ℕ → List ℕ → Option ℕ → Type 0
+Holds ys slots None = MAX_EXTERNS < length ys
+Holds ys slots (Some n) = (n ≤ MAX_EXTERNS) × (take n slots ≡ ys)

@@ -1,13 +1,12 @@
 -- A symbol whose name was put needs no second insertion: from then on its code is that of a symbol which takes the slot of its name, or UNDEF, without putting it.
 -- What the parts of `collect` promise of the codes, and of the list beside them.
-use Rattle.std.specs.Prelude.{◌≡◌, true, false, List, [], ◌∷◌, ◌⊎◌, ℕ, ◌+◌, ◌*◌, ◌≤◌, ◌<◌, eqb, ltb, length, get_or}
+use Rattle.refusal.specs.declared.Refusal.{Refusal}
+use Rattle.std.specs.Prelude.{◌≡◌, true, false, List, [], ◌∷◌, ◌⊎◌, ℕ, ◌+◌, ◌*◌, ◌≤◌, ◌<◌, eqb, ltb, length, get_or, Result, Ok, Err, Option, Some, None}
 use Rattle.util.specs.Pick.{pick}
 use Rattle.le.specs.Le.{get, splice}
 use Rattle.object.specs.declared.Header.{Header}
 use Rattle.object.specs.Format.{RELOCATION_SIZE, RELOCATION_SYMBOL_AT}
 use Rattle.codes.specs.Code.{SLOT, UNDEF_RECORD, UNDEF_EXTERN, puts_in}
-use Rattle.externs.specs.declared.Names.{Names}
-use Rattle.externs.specs.declared.Names.TheVariants.{TooMany, Count}
 use Rattle.externs.specs.Held.{held}
 use Rattle.externs.specs.Keys.{InStep}
 use Rattle.externs.specs.Inserting.{Rising, Has}
@@ -42,9 +41,9 @@ pub record Left (f : List ℕ) (h : Header) (before after slots keys : List ℕ)
   pub list : Kept f h slots keys n
   pub codes : Spends f h before after (held n slots)
 
-unfoldable pub LeftFor : List ℕ → Header → List ℕ → List ℕ → List ℕ → List ℕ → Names → Type 0
-LeftFor f h before after slots keys TooMany = Unit {0}
-LeftFor f h before after slots keys (Count n) = Left f h before after slots keys n
+unfoldable pub LeftFor : List ℕ → Header → List ℕ → List ℕ → List ℕ → List ℕ → Option ℕ → Type 0
+LeftFor f h before after slots keys None = Unit {0}
+LeftFor f h before after slots keys (Some n) = Left f h before after slots keys n
 
 -- t has the bytes of relocation records: by the codes, those from k to r put no name
 pub record Passing (t codes : List ℕ) (k r : ℕ) : Type 0 where

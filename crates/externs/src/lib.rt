@@ -24,13 +24,6 @@ use std::cmp::Ordering;
 // How many keys are passed by a look at the last of them.
 const LEAP: usize = 8;
 
-// How many names there are, or more than the limit.
-#[derive(Clone, Copy)]
-pub enum Names {
-    TooMany,
-    Count(usize),
-}
-
 // The order of a name and that of symbol x.
 fn name_order(f: &[u8], h: Header, name: Span, x: u32) -> Ordering
     ensures { result ≡ name_order f.now h (span_text f.now name) x }
@@ -232,7 +225,7 @@ fn add_records(
     keys: &mut [u64],
     n: usize,
     i: u32,
-) -> Names
+) -> Option<usize>
     requires { (n ≤ MAX_EXTERNS) × (MAX_EXTERNS < length slots.old) × (MAX_EXTERNS < length keys.old) × Kept f.now h slots.old keys.old n }
     ensures holds { Holds (extern_records f.now h (puts_in codes.old) i (held n slots.old) (relocation_count f.now h i)) slots.new result }
     ensures left_for { LeftFor f.now h codes.old codes.new slots.new keys.new result }
@@ -248,7 +241,7 @@ fn add_records(
         if codes::puts_in(codes, j) {
             let next = add(f, h, codes, slots, keys, count, j);
             if limits::MAX_EXTERNS < next {
-                return Names::TooMany;
+                return None;
             }
             count = next;
             k = pass(bytes, codes, k + 1);
@@ -256,11 +249,11 @@ fn add_records(
             k = pass(bytes, codes, k + 1);
         }
     }
-    Names::Count(count)
+    Some(count)
 }
 
 // `keys` are those of the names that `slots` holds.
-fn fill(f: &[u8], h: Header, codes: &mut [u16], slots: &mut [u32], keys: &mut [u64]) -> Names
+fn fill(f: &[u8], h: Header, codes: &mut [u16], slots: &mut [u32], keys: &mut [u64]) -> Option<usize>
     requires { (MAX_EXTERNS < length slots.old) × (MAX_EXTERNS < length keys.old) }
     ensures holds { Holds (externs_by f.now h (puts_in codes.old)) slots.new result }
     ensures left_for { LeftFor f.now h codes.old codes.new slots.new keys.new result }
@@ -270,16 +263,16 @@ fn fill(f: &[u8], h: Header, codes: &mut [u16], slots: &mut [u32], keys: &mut [u
     let mut i: u32 = 0;
     while i < m {
         match add_records(f, h, codes, slots, keys, count, i) {
-            Names::TooMany => {
-                return Names::TooMany;
+            None => {
+                return None;
             }
-            Names::Count(r) => {
+            Some(r) => {
                 count = r;
             }
         }
         i += 1;
     }
-    Names::Count(count)
+    Some(count)
 }
 
 // Zeros from `from` on.
@@ -395,7 +388,7 @@ pub fn collect(
     h: Header,
     codes: &mut [u16],
     slots: &mut [u32; limits::EXTERN_ROOM],
-) -> Names
+) -> Option<usize>
     ensures value { result ≡ names_of (externs_by f.now h (puts_in codes.old)) }
     ensures slots_after { slots.new ≡ slot_words (externs_by f.now h (puts_in codes.old)) }
     ensures slots_len { length slots.new ≡ EXTERN_ROOM }
@@ -404,14 +397,14 @@ pub fn collect(
     let mut keys = [0u64; limits::EXTERN_ROOM];
     let found = fill(f, h, codes, slots, &mut keys);
     match found {
-        Names::TooMany => {
+        None => {
             clear(slots, 0);
-            Names::TooMany
+            None
         }
-        Names::Count(n) => {
+        Some(n) => {
             clear(slots, n);
             put_slots(f, h, le::words(slots, n), &keys, codes);
-            Names::Count(n)
+            Some(n)
         }
     }
 }

@@ -1,7 +1,7 @@
 -- What becomes of relocation k of section i: passed, skipped for a reason, refused by 10, or a fixup (01, "Layout, slots and fixups").
 use Rattle.std.specs.Prelude.{◌≡◌, ℕ, ◌+◌, List, slice_index, refl, None, Option, Some}
 use Rattle.std.proofs.Common.{ap, ◌∙◌}
-use Rattle.refusal.specs.Refusal.{TARGET}
+use Rattle.refusal.specs.Refusal.{Code, PASSES, TARGET}
 use Rattle.util.specs.Pick.{pick}
 use Rattle.arch.specs.declared.Arch.{Arch}
 use Rattle.arch.specs.declared.RVA.{RVA}
@@ -24,11 +24,11 @@ use Rattle.fixups.specs.declared.Outcome.{Outcome}
 use Rattle.fixups.specs.declared.Outcome.TheVariants.{Passed, Skipped, Refused, Fixup}
 
 -- the refusal of each case (01, "Survey"), 0 where there is none
-abbrev pub outcome_refusal : Outcome → ℕ
-outcome_refusal Passed = 0
-outcome_refusal (Skipped k) = 0
+abbrev pub outcome_refusal : Outcome → Code
+outcome_refusal Passed = PASSES
+outcome_refusal (Skipped k) = PASSES
 outcome_refusal Refused = TARGET
-outcome_refusal (Fixup x) = 0
+outcome_refusal (Fixup x) = PASSES
 
 -- with place and target known, the type decides: an unknown one is skipped, one that is not carried is refused
 unfoldable pub by_kind : RelocationKind → Fix → Outcome

@@ -1,5 +1,6 @@
 -- What an accepted load says and leaves: the file is accepted, the base allowed, there was room; each buffer's counted part is its table, and what lies behind it is as it was.
-use Rattle.std.specs.Prelude.{◌≡◌, refl, true, false, ℕ, zero, suc, ◌-◌, ◌*◌, ◌≤◌, eqb, leb, length, get_or}
+use Rattle.refusal.specs.declared.Refusal.{Refusal}
+use Rattle.std.specs.Prelude.{◌≡◌, refl, true, false, ℕ, zero, suc, ◌-◌, ◌*◌, ◌≤◌, eqb, leb, length, get_or, Result, Ok, Err}
 use Rattle.std.proofs.Common.{sym, ◌∙◌, arith}
 use Rattle.std.proofs.Math.Path.{ap}
 use mathlib.Core.List.{List, [], ◌∷◌, ◌++◌}
@@ -18,8 +19,6 @@ use Rattle.externs.specs.Externs.{externs}
 use Rattle.fixups.specs.Tally.{is_fixup, is_skipped, how_many, tally_of}
 use Rattle.refusal.specs.Refusal.{TARGET, PLACE, BASE, STORAGE}
 use Rattle.survey.specs.declared.answer.Counts.{Counts}
-use Rattle.survey.specs.declared.answer.Survey.TheVariants.{Accepted}
-use Rattle.loading.specs.declared.answer.Load.TheVariants.{Loaded, Refused}
 use Rattle.homes.specs.Listed.{listed_total}
 use Rattle.survey.specs.Survey.{Check, check, first_failed, extern_checks, target_checks, checks, counts, counts_by, tally, outcomes, answer_by, survey_of}
 use Rattle.survey.specs.SurveyLaws.{check_holds, checks_hold, Ordered, ordered, ordered_rest, records_rest}
@@ -40,25 +39,25 @@ use Rattle.storage.specs.Storage.{Storage, stored_by, stored}
 use Rattle.loading.specs.Load.{lengths_of, room_ok, load_checks, load_answer, Loads}
 
 -- ---- an answer tells its code
-pub tells_loaded : (code : ℕ) (a c : Counts) → load_answer code a ≡ Loaded c → (code ≡ 0) × (a ≡ c)
+pub tells_loaded : (code : ℕ) (a c : Counts) → load_answer code a ≡ Ok c → (code ≡ 0) × (a ≡ c)
 unfolding load_answer pick
 tells_loaded zero a c e = (refl, cc)
 tells_loaded (suc n) a c e =
     let t : eqb (suc n) 0 ≡ false = ne_eqb (suc n) 0 (λ z. absurd (omega arith)) in
-    let z : Refused (suc n) ≡ Loaded c = rw t at e in
+    let z : Err (suc n) ≡ Ok c = rw t at e in
     absurd (let w : ◌≡◌ {A = ℕ} 0 1 = cc in omega arith)
 
-pub load_tells_refused : (code : ℕ) (a : Counts) (n : ℕ) → load_answer code a ≡ Refused n → (code ≡ n) × (code ≡ 0 → ⊥)
+pub load_tells_refused : (code : ℕ) (a : Counts) (n : ℕ) → load_answer code a ≡ Err n → (code ≡ n) × (code ≡ 0 → ⊥)
 unfolding load_answer pick
 load_tells_refused zero a n e = absurd (let w : ◌≡◌ {A = ℕ} 0 1 = cc in omega arith)
 load_tells_refused (suc k) a n e =
     let t : eqb (suc k) 0 ≡ false = ne_eqb (suc k) 0 (λ z. absurd (omega arith)) in
-    let z : Refused (suc k) ≡ Refused n = rw t at e in
+    let z : Err (suc k) ≡ Err n = rw t at e in
     (cc, λ q. absurd (omega arith))
 
 -- ---- what the answer says
 pub record LoadAccepts (f : List ℕ) (base : ℕ) (s s' : Storage) (c : Counts) : Type 0 where
-  pub accepted : survey_of f ≡ Accepted c
+  pub accepted : survey_of f ≡ Ok c
   pub allowed : base_ok base ≡ true
   pub room : room_ok c s ≡ true
   pub counted : counts f (header_of f) ≡ c
@@ -66,7 +65,7 @@ pub record LoadAccepts (f : List ℕ) (base : ℕ) (s s' : Storage) (c : Counts)
   pub pages : mapped_pages f (header_of f) ≤ MAX_PAGES
   pub leaves : s' ≡ stored f (header_of f) base s
 
-module _ (f : List ℕ) (base : ℕ) (s s' : Storage) (c : Counts) (loads : Loads f base s s' (Loaded c)) where
+module _ (f : List ℕ) (base : ℕ) (s s' : Storage) (c : Counts) (loads : Loads f base s s' (Ok c)) where
   abbrev h : Header
   h = header_of f
 
@@ -103,12 +102,12 @@ module _ (f : List ℕ) (base : ℕ) (s s' : Storage) (c : Counts) (loads : Load
   none_outside : eqb (tally f h).outside 0 ≡ true
   none_outside = check_holds (eqb (tally f h).outside 0) (PLACE - 1) last inside
 
-  survey_accepts : survey_of f ≡ Accepted c
+  survey_accepts : survey_of f ≡ Ok c
   unfolding answer_by first_failed pick
   survey_accepts =
       let z : first_failed (checks f h) ≡ 0 =
       records_rest f h (extern_checks (length (externs f h)) ++ target_checks (tally f h)) in_order ∙ rw (few_names, none_refused, none_outside) in
-      rw z (ap Accepted told.1)
+      rw z (ap Ok told.1)
 
   -- an accepted load has passed every check, and leaves what is to be stored
   pub load_accepts : LoadAccepts f base s s' c
@@ -151,7 +150,7 @@ pub record LoadLeaves (f : List ℕ) (base : ℕ) (s s' : Storage) (c : Counts) 
   pub fixups : Keeps (fix_table base (outcomes f (header_of f)) (relocation_count f (header_of f)) (header_of f).sections) (FIXUP_BYTES * c.fixups) s.fixups s'.fixups
   pub skips : Keeps (skip_table (outcomes f (header_of f)) (relocation_count f (header_of f)) (header_of f).sections) (SKIP_BYTES * c.skips) s.skips s'.skips
 
-module _ (f : List ℕ) (base : ℕ) (s s' : Storage) (c : Counts) (loads : Loads f base s s' (Loaded c)) where
+module _ (f : List ℕ) (base : ℕ) (s s' : Storage) (c : Counts) (loads : Loads f base s s' (Ok c)) where
   accepts : LoadAccepts f base s s' c
   accepts = load_accepts f base s s' c loads
 
@@ -201,7 +200,7 @@ module _ (f : List ℕ) (base : ℕ) (s s' : Storage) (c : Counts) (loads : Load
       }
 
 -- ---- a refusal changes nothing
-pub load_refused : (f : List ℕ) (base : ℕ) (s s' : Storage) (n : ℕ) → Loads f base s s' (Refused n) → s' ≡ s
+pub load_refused : (f : List ℕ) (base : ℕ) (s s' : Storage) (n : ℕ) → Loads f base s s' (Err n) → s' ≡ s
 unfolding pick
 load_refused f base s s' n loads =
     let t = load_tells_refused (first_failed (load_checks f (header_of f) base s)) (counts f (header_of f)) n (sym loads.says) in

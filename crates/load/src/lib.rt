@@ -19,7 +19,7 @@ pub fn load(
     externs: &mut [u8],
     fixups: &mut [u8],
     skips: &mut [u8],
-) -> Load
+) -> Result<Counts, Refusal>
     ensures { Loads f.now base.0
         (storage image.old marks.old sections.old symbols.old externs.old fixups.old skips.old)
         (storage image.new marks.new sections.new symbols.new externs.new fixups.new skips.new)

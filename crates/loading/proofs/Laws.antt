@@ -1,4 +1,6 @@
 -- The ways through the code. Assumes nothing.
+use Rattle.refusal.specs.declared.Refusal.{Refusal}
+use Rattle.std.specs.Prelude.{Result, Ok, Err}
 use mathlib.Core.Path.{◌≡◌, refl, sym, ap, ◌∙◌}
 use mathlib.Core.Bool.{true, false}
 use mathlib.Core.List.{List, ◌++◌}
@@ -18,28 +20,24 @@ use Rattle.survey.specs.declared.answer.Counts.{Counts}
 use Rattle.survey.specs.Survey.{first_failed, counts}
 use Rattle.survey.specs.Surveying.{Cleared}
 use Rattle.plan.specs.declared.Lengths.{Lengths}
-use Rattle.plan.specs.declared.Plan.{Plan}
-use Rattle.plan.specs.declared.Plan.TheVariants as plan
-use Rattle.plan.specs.declared.Plan.TheVariants.{Ready}
 use Rattle.plan.specs.Plan.{plan_checks, Blank, Found, Plans}
 use Rattle.plan.specs.PlanLaws.{plan_says, plan_says_no}
 use Rattle.storage.specs.Storage.{Storage, stored, Known}
-use Rattle.loading.specs.declared.answer.Load.TheVariants.{Loaded, Refused}
 use Rattle.loading.specs.Load.{lengths_of, load_checks, load_answer, LoadIs, Loads}
 
 -- ---- the whole
-load_says_refused : (code : ℕ) (c : Counts) → (code ≡ 0 → ⊥) → Refused code ≡ load_answer code c
+load_says_refused : (code : ℕ) (c : Counts) → (code ≡ 0 → ⊥) → Err code ≡ load_answer code c
 unfolding load_answer pick
 load_says_refused code c z = rw (ne_eqb code 0 z)
 
-refused_is : (code n : ℕ) (c : Counts) (new s : Storage) → code ≡ suc n → LoadIs code c new s s (Refused (suc n))
+refused_is : (code n : ℕ) (c : Counts) (new s : Storage) → code ≡ suc n → LoadIs code c new s s (Err (suc n))
 unfolding pick
 refused_is code n c new s e =
     let z : eqb (suc n) 0 ≡ false = ne_eqb (suc n) 0 (λ q. absurd (omega arith)) in
     rw e (record { says = load_says_refused (suc n) c (λ q. absurd (omega arith)); leaves = rw z })
 
 -- a plan that is ready
-module _ (f : List ℕ) (h : Header) (homes codes slots : List ℕ) (base : ℕ) (l : Lengths) (p : Plan) (plans : Plans f h base l homes codes slots p) (c : Counts) (n : ℕ) (is : p ≡ Ready c n) where
+module _ (f : List ℕ) (h : Header) (homes codes slots : List ℕ) (base : ℕ) (l : Lengths) (p : Result (Counts × ℕ) Refusal) (plans : Plans f h base l homes codes slots p) (c : Counts) (n : ℕ) (is : p ≡ Ready c n) where
   abbrev ready_code : ℕ
   ready_code = first_failed (plan_checks f h base l)
 
@@ -66,7 +64,7 @@ pub slots_long : {n : ℕ} → (length (replicate {A = ℕ} EXTERN_ROOM 0) ≡ E
 slots_long e = sym (e (length-replicate {A = ℕ} EXTERN_ROOM 0))
 
 -- what the plan gives for arrays of zeros
-module _ (f homes₀ codes₀ : List ℕ) (base : ℕ) (s : Storage) (homes codes slots : List ℕ) (p : Plan)
+module _ (f homes₀ codes₀ : List ℕ) (base : ℕ) (s : Storage) (homes codes slots : List ℕ) (p : Result (Counts × ℕ) Refusal)
     (made : Blank (header_of f) homes₀ codes₀ (replicate EXTERN_ROOM 0) → Plans f (header_of f) base (lengths_of s) homes codes slots p) where
   abbrev h : Header
   h = header_of f
@@ -77,18 +75,18 @@ module _ (f homes₀ codes₀ : List ℕ) (base : ℕ) (s : Storage) (homes code
   plans : Cleared h homes₀ codes₀ → Plans f h base (lengths_of s) homes codes slots p
   plans zeros = made (record { zeros = zeros; no_slots = refl })
 
-  no_case : (k n : ℕ) → code ≡ k → k ≡ n → (k ≡ 0 → ⊥) → Loads f base s s (Refused n)
+  no_case : (k n : ℕ) → code ≡ k → k ≡ n → (k ≡ 0 → ⊥) → Loads f base s s (Err n)
   no_case zero n e q z = absurd (z refl)
   no_case (suc k) n e q z = rw (← q) (refused_is code k (counts f h) (stored f h base s) s e)
 
-  pub load_no : (n : ℕ) → p ≡ plan.Refused n → Cleared h homes₀ codes₀ → Loads f base s s (Refused n)
+  pub load_no : (n : ℕ) → p ≡ Err n → Cleared h homes₀ codes₀ → Loads f base s s (Err n)
   load_no n e zeros =
       let t = plan_says_no code (counts f h) (length (externs f h)) n (sym e ∙ (plans zeros).says) in
       no_case code n refl t.0 t.1
 
-  pub load_yes : (c : Counts) (n : ℕ) (after : Storage) → p ≡ Ready c n → (Known f h homes codes (part slots 0 n) → after ≡ stored f h base s) → Cleared h homes₀ codes₀ → Loads f base s after (Loaded c)
+  pub load_yes : (c : Counts) (n : ℕ) (after : Storage) → p ≡ Ready c n → (Known f h homes codes (part slots 0 n) → after ≡ stored f h base s) → Cleared h homes₀ codes₀ → Loads f base s after (Ok c)
   unfolding load_answer pick
   load_yes c n after is wrote zeros =
       let t = told f h homes codes slots base (lengths_of s) p (plans zeros) c n is in
       let e : after ≡ stored f h base s = wrote (known_is f h homes codes slots base (lengths_of s) p (plans zeros) c n is) in
-      record { says = rw t.0 (ap Loaded t.1); leaves = rw t.0 e }
+      record { says = rw t.0 (ap Ok t.1); leaves = rw t.0 e }

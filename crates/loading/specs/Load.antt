@@ -1,6 +1,7 @@
 -- Load: everything that survey counts is written into lent storage at a base, or nothing is (01, "Load").
-use Rattle.std.specs.Prelude.{◌≡◌, Bool, List, ℕ, eqb, length}
-use Rattle.util.specs.Pick.{pick}
+use Rattle.refusal.specs.declared.Refusal.{Refusal}
+use Rattle.refusal.specs.Refusal.{Code, answer_of, unless_refused}
+use Rattle.std.specs.Prelude.{◌≡◌, Bool, List, ℕ, length, Result, Ok, Err}
 use Rattle.object.specs.declared.Header.{Header}
 use Rattle.object.specs.Format.{header_of}
 use Rattle.survey.specs.declared.answer.Counts.{Counts}
@@ -8,8 +9,6 @@ use Rattle.survey.specs.Survey.{Check, first_failed, counts}
 use Rattle.plan.specs.declared.Lengths.{Lengths}
 use Rattle.plan.specs.Plan.{room_for, plan_checks}
 use Rattle.storage.specs.Storage.{Storage, stored}
-use Rattle.loading.specs.declared.answer.Load.{Load}
-use Rattle.loading.specs.declared.answer.Load.TheVariants.{Loaded, Refused}
 
 -- the lengths of the seven
 abbrev pub lengths_of : Storage → Lengths
@@ -33,15 +32,15 @@ abbrev pub load_checks : List ℕ → Header → ℕ → Storage → List Check
 load_checks f h base s = plan_checks f h base (lengths_of s)
 
 -- load's answer by its code: the counts, or the refusal
-unfoldable pub load_answer : ℕ → Counts → Load
-load_answer code c = pick (eqb code 0) (Loaded c) (Refused code)
+abbrev pub load_answer : Code → Counts → Result Counts Refusal
+load_answer = answer_of
 
 -- by a code: the counts and the new contents, or the refusal and what there was
-pub record LoadIs (code : ℕ) (c : Counts) (new old after : Storage) (r : Load) : Type 0 where
+pub record LoadIs (code : Code) (c : Counts) (new old after : Storage) (r : Result Counts Refusal) : Type 0 where
   pub says : r ≡ load_answer code c
-  pub leaves : after ≡ pick (eqb code 0) new old
+  pub leaves : after ≡ unless_refused code new old
 
 -- load's answer, and the storage at exit
-abbrev pub Loads : List ℕ → ℕ → Storage → Storage → Load → Type 0
+abbrev pub Loads : List ℕ → ℕ → Storage → Storage → Result Counts Refusal → Type 0
 Loads f base s s' r =
     LoadIs (first_failed (load_checks f (header_of f) base s)) (counts f (header_of f)) (stored f (header_of f) base s) s s' r

@@ -25,7 +25,7 @@ pub fn load_with(
     externs: &mut [u8],
     fixups: &mut [u8],
     skips: &mut [u8],
-) -> Load
+) -> Result<Counts, Refusal>
     ensures { Cleared (header_of f.now) homes.old codes.old
         → Loads f.now base.0
         (storage image.old marks.old sections.old symbols.old externs.old fixups.old skips.old)
@@ -43,13 +43,13 @@ pub fn load_with(
     };
     let mut slots = [0u32; limits::EXTERN_ROOM];
     match plan::plan_file(f, base, l, homes, codes, &mut slots) {
-        Plan::Refused(n) => Load::Refused(n),
-        Plan::Ready(c, n) => {
+        Err(n) => Err(n),
+        Ok((c, n)) => {
             storage::write_all(
                 f, base, homes, codes, &slots, n, image, marks, sections, symbols, externs, fixups,
                 skips,
             );
-            Load::Loaded(c)
+            Ok(c)
         }
     }
 }

@@ -1,4 +1,7 @@
 -- The steps of a scan and of filling, as the code asks them.
+use Rattle.nearest.specs.declared.Routine.{Routine}
+use Rattle.refusal.specs.declared.Refusal.{Refusal}
+use Rattle.std.specs.Prelude.{Result, Ok, Err}
 use Rattle.std.proofs.Common.{◌≡◌, ℕ, ◌+◌, ◌*◌, ◌/◌, ◌<◌, ◌≤◌, Bool, true, false, List, length, drop, set, sym, refl, ap, ◌∙◌, add-one, drop_of_length-le, drop-cons}
 use Rattle.limits.specs.Records.{WORD, SECTION_WORDS, SECTION_BYTES}
 use Rattle.util.specs.Pick.{pick}
@@ -6,13 +9,9 @@ use Rattle.util.specs.Prefix.{length_list, list_at}
 use Rattle.le.specs.Le.{get}
 use Rattle.arch.specs.declared.VA.{VA}
 use Rattle.arch.specs.Address.{va}
-use Rattle.refusal.specs.declared.Number.{Number}
-use Rattle.refusal.specs.declared.Number.TheVariants.{Value, Refusal}
 use Rattle.words.specs.Words.{word_of}
 use Rattle.section.specs.declared.Section.{Section}
 use Rattle.section.specs.Section.{holds}
-use Rattle.nearest.specs.declared.RoutineAnswer.{RoutineAnswer}
-use Rattle.nearest.specs.declared.RoutineAnswer.TheVariants.{Refused}
 use Rattle.nearest.specs.Nearest.{nearest}
 use Rattle.module.specs.Questions.{first_of, numbered, NONE_HOLDS, section_of, section_at, fill_to, blank, nth}
 use Rattle.module.specs.Routine.{table_sections, of_holder, routine}
@@ -90,23 +89,23 @@ module _ {table : List ℕ} {x : VA} {n i : ℕ} (l : LeftRecords table x i) (co
   pub record_next : {s : Section} {b : Bool} → i < n → s ≡ section_at table i → b ≡ holds x s → b ≡ false → LeftRecords table x (i + 1)
   record_next below is test fails = record { left = left_next l.left (rw (long table n counted) below) (test ∙ ap (holds x) (is ∙ sym (there table n counted i below))) fails }
 
-  pub record_found : {s : Section} {b : Bool} {r : Number} → i < n → s ≡ section_at table i → b ≡ holds x s → b ≡ true → r ≡ Value i → r ≡ section_of (table_sections table) x
+  pub record_found : {s : Section} {b : Bool} {r : Result ℕ Refusal} → i < n → s ≡ section_at table i → b ≡ holds x s → b ≡ true → r ≡ Ok i → r ≡ section_of (table_sections table) x
   record_found below is test found answers = answers ∙ sym (left_found l.left (rw (long table n counted) below) (test ∙ ap (holds x) (is ∙ sym (there table n counted i below))) found)
 
-  pub record_none : {r : Number} → n ≤ i → r ≡ NONE_HOLDS → r ≡ section_of (table_sections table) x
+  pub record_none : {r : Result ℕ Refusal} → n ≤ i → r ≡ NONE_HOLDS → r ≡ section_of (table_sections table) x
   record_none past answers = left_none l.left (rw (long table n counted) past) answers
 
 pub ruleset record_steps = (records_all, record_next, record_found, record_none)
 
 -- ---- the symbols of the section that was found
 module _ (symbols : List ℕ) (x : VA) where
-  pub of_holder_is : (s : Number) (r : ℕ) {a : RoutineAnswer} → s ≡ Value r → a ≡ nearest symbols r x → a ≡ of_holder symbols x s
+  pub of_holder_is : (s : Result ℕ Refusal) (r : ℕ) {a : Result Routine Refusal} → s ≡ Ok r → a ≡ nearest symbols r x → a ≡ of_holder symbols x s
   unfolding of_holder
   of_holder_is s r q e = rw q e
 
-  pub of_none_is : (s : Number) (n : ℕ) → s ≡ Refusal n → Refused n ≡ of_holder symbols x s
+  pub of_none_is : (s : Result ℕ Refusal) (n : ℕ) → s ≡ Err n → Err n ≡ of_holder symbols x s
   unfolding of_holder
   of_none_is s n q = rw q
 
-  pub routine_is : (t : List Section) {a : RoutineAnswer} (s : Number) → a ≡ of_holder symbols x s → s ≡ section_of t x → a ≡ routine t symbols x
+  pub routine_is : (t : List Section) {a : Result Routine Refusal} (s : Result ℕ Refusal) → a ≡ of_holder symbols x s → s ≡ section_of t x → a ≡ routine t symbols x
   routine_is t s e q = rw (← q) e

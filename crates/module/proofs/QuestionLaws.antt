@@ -1,15 +1,14 @@
 -- What the questions to the section table promise. These rest on the first record that a test takes, and so cannot stand beside that definition: an edit of it must stay readable there.
-use Rattle.std.specs.Prelude.{◌≡◌, ℕ, zero, suc, ◌+◌, ◌-◌, ◌%◌, ◌^◌, ◌<◌, ◌≤◌, Bool, true, false, List, [], ◌∷◌, length, nat_le, nat_lt}
+use Rattle.refusal.specs.declared.Refusal.TheVariants.{NoSection}
+use Rattle.refusal.specs.declared.Refusal.{Refusal}
+use Rattle.std.specs.Prelude.{◌≡◌, ℕ, zero, suc, ◌+◌, ◌-◌, ◌%◌, ◌^◌, ◌<◌, ◌≤◌, Bool, true, false, List, [], ◌∷◌, length, nat_le, nat_lt, Result, Ok, Err}
 use Rattle.std.proofs.Math.Path.{refl, ap}
 use Rattle.std.proofs.Common.{◌∙◌, ⊎_elim, not-suc-le-zero, le_of_suc-le-suc, mod-eq_of_lt, zero-add, leb-true, le-leb, lt-ltb}
 use Rattle.std.proofs.Math.Bool.{and-false}
 use native.Mathlib.Omega.{arith}
-use Rattle.refusal.specs.Refusal.{NO_SECTION}
 use Rattle.util.specs.Pick.{pick, yes_no, and_left, and_both}
 use Rattle.arch.specs.declared.VA.{VA}
 use Rattle.arch.specs.Address.{va}
-use Rattle.refusal.specs.declared.Number.TheVariants.{Value, Refusal}
-use Rattle.answers.specs.declared.AddressAnswer.TheVariants.{Found}
 use Rattle.section.specs.declared.Section.{Section}
 use Rattle.section.specs.declared.Probe.{Probe}
 use Rattle.section.specs.Section.{holds, file_holds, intersects, grants, intersects_none}
@@ -38,7 +37,7 @@ module _ {A : Type 0} (p : Section → Bool) (a : ℕ → Section → A) (z : A)
   none_is t n = none_at t 0 n
 
 -- an address that no section holds is refused by 19
-pub refused_outside : (t : List Section) (x : VA) → ((j : ℕ) → j < length t → holds x (nth t j) ≡ false) → (file_offset t x ≡ Refusal NO_SECTION) × (section_of t x ≡ Refusal NO_SECTION)
+pub refused_outside : (t : List Section) (x : VA) → ((j : ℕ) → j < length t → holds x (nth t j) ≡ false) → (file_offset t x ≡ Err NoSection) × (section_of t x ≡ Err NoSection)
 refused_outside t x n = (none_is (holds x) (offset_in x) NONE_HOLDS t n, none_is (holds x) numbered NONE_HOLDS t n)
 
 -- ---- there and back: section i is the first that holds the address, its file range reaches so far, and no earlier section has that byte of the file
@@ -49,15 +48,15 @@ module _ (t : List Section) (x : VA) (i : ℕ) (l : i < length t) (h : holds x (
   abbrev place : ℕ
   place = s.file_start + (x.0 - s.start.0)
 
-  pub offset_of_address : place < 2 ^ 64 → file_offset t x ≡ Value place
-  offset_of_address f = first_is (holds x) (offset_in x) NONE_HOLDS t i l h first ∙ ap Value (mod-eq_of_lt f)
+  pub offset_of_address : place < 2 ^ 64 → file_offset t x ≡ Ok place
+  offset_of_address f = first_is (holds x) (offset_in x) NONE_HOLDS t i l h first ∙ ap Ok (mod-eq_of_lt f)
 
-  pub address_of_offset : place < s.file_end → x.0 < 2 ^ 64 → ((j : ℕ) → j < i → file_holds place (nth t j) ≡ false) → virtual_address t place ≡ Found x
+  pub address_of_offset : place < s.file_end → x.0 < 2 ^ 64 → ((j : ℕ) → j < i → file_holds place (nth t j) ≡ false) → virtual_address t place ≡ Ok x
   address_of_offset raw f none =
       let low : s.start.0 ≤ x.0 = leb-true s.start.0 x.0 (and_left (nat_le s.start.0 x.0) (nat_lt x.0 s.end.0) h) in
       let back : s.start.0 + (place - s.file_start) ≡ x.0 = omega arith in
       let inside : file_holds place s ≡ true = and_both (nat_le s.file_start place) (nat_lt place s.file_end) (le-leb s.file_start place (omega arith)) (lt-ltb place s.file_end raw) in
-      first_is (file_holds place) (address_in place) NO_ADDRESS t i l inside none ∙ ap (λ (v : ℕ). Found (va v)) (ap (λ (v : ℕ). v % 2 ^ 64) back ∙ mod-eq_of_lt f)
+      first_is (file_holds place) (address_in place) NO_ADDRESS t i l inside none ∙ ap (λ (v : ℕ). Ok (va v)) (ap (λ (v : ℕ). v % 2 ^ 64) back ∙ mod-eq_of_lt f)
 
 -- ---- permissions
 -- an address in a section with one of the permissions that are asked for

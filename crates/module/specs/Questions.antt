@@ -1,13 +1,10 @@
 -- The section table as a list of records, and the questions to it (01, "module.rs").
-use Rattle.std.specs.Prelude.{◌≡◌, ℕ, zero, suc, ◌+◌, ◌-◌, ◌/◌, ◌%◌, ◌^◌, min, Bool, true, false, List, [], ◌∷◌, length, slice_index_or, slice_set}
+use Rattle.refusal.specs.declared.Refusal.TheVariants.{NoEntry, NoSection}
+use Rattle.refusal.specs.declared.Refusal.{Refusal}
+use Rattle.std.specs.Prelude.{◌≡◌, ℕ, zero, suc, ◌+◌, ◌-◌, ◌/◌, ◌%◌, ◌^◌, min, Bool, true, false, List, [], ◌∷◌, length, slice_index_or, slice_set, Result, Ok, Err}
 use Rattle.util.specs.Pick.{pick}
 use Rattle.arch.specs.declared.VA.{VA}
 use Rattle.arch.specs.Address.{va}
-use Rattle.refusal.specs.Refusal.{NO_SECTION, NO_ENTRY}
-use Rattle.refusal.specs.declared.Number.{Number}
-use Rattle.refusal.specs.declared.Number.TheVariants.{Value, Refusal}
-use Rattle.answers.specs.declared.AddressAnswer.{AddressAnswer}
-use Rattle.answers.specs.declared.AddressAnswer.TheVariants.{Found, Refused}
 use Rattle.words.specs.Words.{word_of}
 use Rattle.limits.specs.Records.{SECTION_WORDS, SECTION_BYTES, SECTION_START, SECTION_END, SECTION_FILE_START, SECTION_FILE_END, SECTION_PERMISSIONS, SECTION_NAME_START, SECTION_NAME_LENGTH, SECTION_FILE_NUMBER}
 use Rattle.section.specs.declared.Section.{Section}
@@ -25,45 +22,45 @@ abbrev pub moved : ℕ → ℕ → ℕ → ℕ
 moved from to x = (to + (x - from)) % 2 ^ 64
 
 -- what the section that a scan finds answers: as far into the file range as the address is into the range
-abbrev pub offset_in : VA → ℕ → Section → Number
-offset_in a i s = Value (moved s.start.0 s.file_start a.0)
+abbrev pub offset_in : VA → ℕ → Section → Result ℕ Refusal
+offset_in a i s = Ok (moved s.start.0 s.file_start a.0)
 
 -- the other way: as far into the range as the file offset is into the file range
-abbrev pub address_in : ℕ → ℕ → Section → AddressAnswer
-address_in o i s = Found (va (moved s.file_start s.start.0 o))
+abbrev pub address_in : ℕ → ℕ → Section → Result VA Refusal
+address_in o i s = Ok (va (moved s.file_start s.start.0 o))
 
 -- its number in the table
-abbrev pub numbered : ℕ → Section → Number
-numbered i s = Value i
+abbrev pub numbered : ℕ → Section → Result ℕ Refusal
+numbered i s = Ok i
 
 -- what a scan answers that finds none: 19
-abbrev pub NONE_HOLDS : Number
-NONE_HOLDS = Refusal NO_SECTION
+abbrev pub NONE_HOLDS : Result ℕ Refusal
+NONE_HOLDS = Err NoSection
 
 -- the same, where the answer is an address
-abbrev pub NO_ADDRESS : AddressAnswer
-NO_ADDRESS = Refused NO_SECTION
+abbrev pub NO_ADDRESS : Result VA Refusal
+NO_ADDRESS = Err NoSection
 
 -- ---- the questions
 -- the file offset of an address, past the raw data and in UNDEF too
-abbrev pub file_offset : List Section → VA → Number
+abbrev pub file_offset : List Section → VA → Result ℕ Refusal
 file_offset t a = first_of (holds a) (offset_in a) NONE_HOLDS t 0
 
 -- the address of a file offset
-abbrev pub virtual_address : List Section → ℕ → AddressAnswer
+abbrev pub virtual_address : List Section → ℕ → Result VA Refusal
 virtual_address t o = first_of (file_holds o) (address_in o) NO_ADDRESS t 0
 
 -- the number in the table of the first section that holds an address
-abbrev pub section_of : List Section → VA → Number
+abbrev pub section_of : List Section → VA → Result ℕ Refusal
 section_of t a = first_of (holds a) numbered NONE_HOLDS t 0
 
 -- of the first whose file range holds a file offset
-abbrev pub section_of_offset : List Section → ℕ → Number
+abbrev pub section_of_offset : List Section → ℕ → Result ℕ Refusal
 section_of_offset t o = first_of (file_holds o) numbered NONE_HOLDS t 0
 
 -- of the first that has a name; where none has it, 20
-abbrev pub section_named : List Section → List ℕ → List ℕ → Number
-section_named t file name = first_of (section_has_name file name) numbered (Refusal NO_ENTRY) t 0
+abbrev pub section_named : List Section → List ℕ → List ℕ → Result ℕ Refusal
+section_named t file name = first_of (section_has_name file name) numbered (Err NoEntry) t 0
 
 -- some section grants what is asked of the address
 abbrev pub probe_va : List Section → Probe → Bool
@@ -75,7 +72,7 @@ probe_rva t q = first_of (grants_offset q) (λ i s. true) false t 0
 
 -- ---- an address in the image
 -- some section's file range holds that file offset
-abbrev pub is_backed : List Section → Number → Bool
+abbrev pub is_backed : List Section → Result ℕ Refusal → Bool
 is_backed t n = first_of (λ s. has_byte s n) (λ i s. true) false t 0
 
 -- it holds that of the address

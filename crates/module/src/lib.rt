@@ -2,8 +2,7 @@
 #![tactic(auto)]
 
 ghost use Rattle.std.specs.Prelude.{◌≡◌, ◌+◌, ◌*◌, ◌/◌, ◌^◌, ◌<◌, ◌≤◌, min, true, false};
-ghost use Rattle.refusal.specs.Refusal.{NO_ENTRY};
-ghost use Rattle.refusal.specs.declared.Number.TheVariants.{Value, Refusal};
+ghost use Rattle.refusal.specs.declared.Refusal.TheVariants.{NoEntry};
 ghost use Rattle.words.specs.Words.{word_of};
 ghost use Rattle.limits.specs.Records.{SECTION_BYTES, SECTION_WORDS};
 ghost use Rattle.module.specs.Questions.{
@@ -35,7 +34,7 @@ use limits::{
     WORD,
 };
 use nearest::RoutineAnswer;
-use refusal::{NO_ENTRY, NO_SECTION, Number};
+use refusal::Refusal;
 use section::{OffsetProbe, Probe, Section};
 
 // Word w of record r of the section table that load wrote.
@@ -98,53 +97,53 @@ fn moved(from: u64, to: u64, x: u64) -> u64
 }
 
 // What the section of a scan answers: it is given its number in the table, the record and what was asked.
-fn offset_in(_i: usize, s: Section, va: VA) -> Number
+fn offset_in(_i: usize, s: Section, va: VA) -> Result<u64, Refusal>
     ensures { result ≡ offset_in va _i s }
 {
-    Number::Value(moved(s.start.0, s.file_start, va.0))
+    Ok(moved(s.start.0, s.file_start, va.0))
 }
 
-fn address_in(_i: usize, s: Section, offset: u64) -> AddressAnswer
+fn address_in(_i: usize, s: Section, offset: u64) -> Result<VA, Refusal>
     ensures { result ≡ address_in offset _i s }
 {
-    AddressAnswer::Found(VA(moved(s.file_start, s.start.0, offset)))
+    Ok(VA(moved(s.file_start, s.start.0, offset)))
 }
 
-fn index_at(i: usize, _s: Section, _va: VA) -> Number
+fn index_at(i: usize, _s: Section, _va: VA) -> Result<u64, Refusal>
     ensures { result ≡ numbered i _s }
 {
-    Number::Value(i as u64)
+    Ok(i as u64)
 }
 
-fn index_for(i: usize, _s: Section, _offset: u64) -> Number
+fn index_for(i: usize, _s: Section, _offset: u64) -> Result<u64, Refusal>
     ensures { result ≡ numbered i _s }
 {
-    Number::Value(i as u64)
+    Ok(i as u64)
 }
 
-fn index(i: usize) -> Number
-    ensures { result ≡ Value i }
+fn index(i: usize) -> Result<u64, Refusal>
+    ensures { result ≡ Ok i }
 {
-    Number::Value(i as u64)
+    Ok(i as u64)
 }
 
 // What a scan answers that finds none.
-fn no_section() -> Number
+fn no_section() -> Result<u64, Refusal>
     ensures { result ≡ NONE_HOLDS }
 {
-    Number::Refusal(NO_SECTION)
+    Err(Refusal::NoSection)
 }
 
-fn no_address() -> AddressAnswer
+fn no_address() -> Result<VA, Refusal>
     ensures { result ≡ NO_ADDRESS }
 {
-    AddressAnswer::Refused(NO_SECTION)
+    AddressErr(Refusal::NoSection)
 }
 
-fn no_name() -> Number
-    ensures { result ≡ Refusal NO_ENTRY }
+fn no_name() -> Result<u64, Refusal>
+    ensures { result ≡ Err NoEntry }
 {
-    Number::Refusal(NO_ENTRY)
+    Err(Refusal::NoEntry)
 }
 
 fn yes(_i: usize, _s: Section, _q: Probe) -> bool
@@ -159,7 +158,7 @@ fn yes_offset(_i: usize, _s: Section, _q: OffsetProbe) -> bool
     true
 }
 
-fn yes_byte(_i: usize, _s: Section, _n: Number) -> bool
+fn yes_byte(_i: usize, _s: Section, _n: Result<u64, Refusal>) -> bool
     ensures { result ≡ true }
 {
     true
@@ -173,7 +172,7 @@ fn no() -> bool
 
 // The place in the file of an address, by the first section whose range holds it, also past that section's raw data.
 #[tactic(auto, using(crate::proofs::Laws::scan_steps))]
-pub fn file_offset(t: &[Section], va: VA) -> Number
+pub fn file_offset(t: &[Section], va: VA) -> Result<u64, Refusal>
     ensures { result ≡ file_offset t.now va }
 {
     let mut i = 0;
@@ -189,7 +188,7 @@ pub fn file_offset(t: &[Section], va: VA) -> Number
 
 // The address of a place in the file, by the first section whose file range holds it.
 #[tactic(auto, using(crate::proofs::Laws::scan_steps))]
-pub fn virtual_address(t: &[Section], offset: u64) -> AddressAnswer
+pub fn virtual_address(t: &[Section], offset: u64) -> Result<VA, Refusal>
     ensures { result ≡ virtual_address t.now offset }
 {
     let mut i = 0;
@@ -205,7 +204,7 @@ pub fn virtual_address(t: &[Section], offset: u64) -> AddressAnswer
 
 // The number in the table, from 0, of the first section whose range holds the address.
 #[tactic(auto, using(crate::proofs::Laws::scan_steps))]
-pub fn section_of(t: &[Section], va: VA) -> Number
+pub fn section_of(t: &[Section], va: VA) -> Result<u64, Refusal>
     ensures { result ≡ section_of t.now va }
 {
     let mut i = 0;
@@ -221,7 +220,7 @@ pub fn section_of(t: &[Section], va: VA) -> Number
 
 // The number in the table, from 0, of the first section whose file range holds the offset.
 #[tactic(auto, using(crate::proofs::Laws::scan_steps))]
-pub fn section_of_offset(t: &[Section], offset: u64) -> Number
+pub fn section_of_offset(t: &[Section], offset: u64) -> Result<u64, Refusal>
     ensures { result ≡ section_of_offset t.now offset }
 {
     let mut i = 0;
@@ -237,7 +236,7 @@ pub fn section_of_offset(t: &[Section], offset: u64) -> Number
 
 // The number in the table, from 0, of the first section with that name; UNDEF's is `UNDEF`.
 #[tactic(auto, using(crate::proofs::Laws::scan_steps))]
-pub fn section_named(t: &[Section], file: &[u8], name: &[u8]) -> Number
+pub fn section_named(t: &[Section], file: &[u8], name: &[u8]) -> Result<u64, Refusal>
     ensures { result ≡ section_named t.now file.now name.now }
 {
     let mut i = 0;
@@ -283,7 +282,7 @@ pub fn probe_rva(t: &[Section], q: OffsetProbe) -> bool
 }
 
 #[tactic(auto, using(crate::proofs::Laws::scan_steps))]
-fn is_backed(t: &[Section], n: Number) -> bool
+fn is_backed(t: &[Section], n: Result<u64, Refusal>) -> bool
     ensures { result ≡ is_backed t.now n }
 {
     let mut i = 0;
@@ -305,18 +304,18 @@ pub fn is_in_image(t: &[Section], va: VA) -> bool
 }
 
 // What the symbols of the section answer that was found to hold the address; where none was, its refusal.
-fn of_holder(symbols: &[u8], va: VA, section: Number) -> RoutineAnswer
+fn of_holder(symbols: &[u8], va: VA, section: Result<u64, Refusal>) -> Result<Routine, Refusal>
     ensures { result ≡ of_holder symbols.now va section }
 {
     match section {
-        Number::Value(r) => nearest::nearest(symbols, r, va),
-        Number::Refusal(n) => RoutineAnswer::Refused(n),
+        Ok(r) => nearest::nearest(symbols, r, va),
+        Err(n) => RoutineErr(n),
     }
 }
 
 // The listed symbol that the address belongs to: of those whose home is the section that holds it, the nearest that does not lie above.
 // `symbols` is the table that load wrote.
-pub fn routine(t: &[Section], symbols: &[u8], va: VA) -> RoutineAnswer
+pub fn routine(t: &[Section], symbols: &[u8], va: VA) -> Result<Routine, Refusal>
     ensures { result ≡ routine t.now symbols.now va }
 {
     of_holder(symbols, va, section_of(t, va))
@@ -324,7 +323,7 @@ pub fn routine(t: &[Section], symbols: &[u8], va: VA) -> RoutineAnswer
 
 // The number of the first record of load's section table whose range holds the address.
 #[tactic(auto, using(crate::proofs::Laws::record_steps))]
-fn section_in(table: &[u8], va: VA) -> Number
+fn section_in(table: &[u8], va: VA) -> Result<u64, Refusal>
     ensures { result ≡ section_of (table_sections table.now) va }
 {
     let n = table.len() / SECTION_BYTES;
@@ -339,7 +338,7 @@ fn section_in(table: &[u8], va: VA) -> Number
 }
 
 // The same question to both tables as load wrote them.
-pub fn routine_in(table: &[u8], symbols: &[u8], va: VA) -> RoutineAnswer
+pub fn routine_in(table: &[u8], symbols: &[u8], va: VA) -> Result<Routine, Refusal>
     ensures { result ≡ routine (table_sections table.now) symbols.now va }
 {
     of_holder(symbols, va, section_in(table, va))

@@ -1,4 +1,6 @@
 -- The loops over bytes, and the ways through the name readers. Assumes nothing.
+use Rattle.names.specs.declared.Name.{Name}
+use Rattle.names.specs.Name.{good_name}
 use Rattle.std.specs.Ordering.{Ordering, Less, Equal, Greater}
 use Rattle.std.specs.Prelude.{None, Option, Some}
 use mathlib.Core.Path.{◌≡◌, refl, sym, ap, ◌∙◌}
@@ -19,8 +21,6 @@ use Rattle.chars.specs.Chars.{good_symbol_name, good_section_name}
 use Rattle.object.specs.declared.Header.{Header}
 use Rattle.object.specs.Format.{NAME_SIZE, LONG_OFFSET_AT, section_header_at, symbol_record_at, string_table, string_length}
 use Rattle.names.specs.declared.Span.{Span}
-use Rattle.names.specs.declared.Name.{Name}
-use Rattle.names.specs.declared.Name.TheVariants.{Good, Bad}
 use Rattle.names.specs.Bytes.{run, all_digits, decimal, decimal_to, compare_bytes, are_same_bytes, UNDEF}
 use Rattle.names.specs.Name.{long_run, symbol_run, SLASH, slash_offset, slash_by, slash_run, section_run, checked, name_bytes, left_from, long_span, span_at, symbol_span, no_span, slash_span, section_span_at, section_span, span_text, is_good}
 use Rattle.names.specs.NameLaws.{undef_front}
@@ -156,35 +156,35 @@ pub ruleset same_loop = (same_more, same_out, same_end, same_lengths)
 -- ---- the ways through the readers
 module _ (f : List ℕ) (h : Header) where
   module _ (offset l : ℕ) (is : l ≡ string_length f h) where
-    pub long_low : offset < 4 → Bad ≡ long_run f h offset
+    pub long_low : offset < 4 → None ≡ long_run f h offset
     unfolding long_run pick
     long_low k = rw (lt-leb 4 offset k)
 
-    pub long_past : 4 ≤ offset → l ≤ offset → Bad ≡ long_run f h offset
+    pub long_past : 4 ≤ offset → l ≤ offset → None ≡ long_run f h offset
     unfolding long_run pick
     long_past j k =
         let d : string_length f h - offset ≡ 0 = omega arith in
         rw (le-leb 4 offset j, d, le-ltb (run f (string_table h + offset) 0) 0 (omega arith))
 
     module _ (t n : ℕ) (at : t ≡ string_table h) (ran : n ≡ run f (t + offset) (l - offset)) (low : 4 ≤ offset) where
-      pub long_good : n < l - offset → Good (t + offset) n ≡ long_run f h offset
+      pub long_good : n < l - offset → good_name (t + offset) n ≡ long_run f h offset
       unfolding long_run pick
       long_good k = rw (← is, ← at, ← ran, le-leb 4 offset low, lt-ltb n (l - offset) k)
 
-      pub long_open : l - offset ≤ n → Bad ≡ long_run f h offset
+      pub long_open : l - offset ≤ n → None ≡ long_run f h offset
       unfolding long_run pick
       long_open k = rw (← is, ← at, ← ran, le-leb 4 offset low, le-ltb n (l - offset) k)
 
   module _ (at : ℕ) where
-    pub symbol_long : (x : Name) (r o : ℕ) → r ≡ get 4 f at → eqb r 0 ≡ true → o ≡ get 4 f (at + LONG_OFFSET_AT) → x ≡ long_run f h o → x ≡ symbol_run f h at
+    pub symbol_long : (x : Option Name) (r o : ℕ) → r ≡ get 4 f at → eqb r 0 ≡ true → o ≡ get 4 f (at + LONG_OFFSET_AT) → x ≡ long_run f h o → x ≡ symbol_run f h at
     unfolding symbol_run pick
     symbol_long x r o e z q p = rw (← e, z, ← q) p
 
-    pub symbol_empty : (r b : ℕ) → r ≡ get 4 f at → eqb r 0 ≡ false → b ≡ get_or f at 0 → eqb b 0 ≡ true → Bad ≡ symbol_run f h at
+    pub symbol_empty : (r b : ℕ) → r ≡ get 4 f at → eqb r 0 ≡ false → b ≡ get_or f at 0 → eqb b 0 ≡ true → None ≡ symbol_run f h at
     unfolding symbol_run pick
     symbol_empty r b e z q p = rw (← e, z, ← q, p)
 
-    pub symbol_short : (r b n : ℕ) → r ≡ get 4 f at → eqb r 0 ≡ false → b ≡ get_or f at 0 → eqb b 0 ≡ false → n ≡ run f at NAME_SIZE → Good at n ≡ symbol_run f h at
+    pub symbol_short : (r b n : ℕ) → r ≡ get 4 f at → eqb r 0 ≡ false → b ≡ get_or f at 0 → eqb b 0 ≡ false → n ≡ run f at NAME_SIZE → good_name at n ≡ symbol_run f h at
     unfolding symbol_run pick
     symbol_short r b n e z q p s = rw (← e, z, ← q, p, s)
 
@@ -205,19 +205,19 @@ module _ (f : List ℕ) (h : Header) where
       pub slash_at : (k : ℕ) → at ≡ k → d ≡ slash_offset f k
       slash_at k e = rw (← e) is
 
-      pub slash_long : (x : Name) (o : ℕ) → d ≡ Some o → x ≡ long_run f h o → x ≡ slash_run f h at
+      pub slash_long : (x : Option Name) (o : ℕ) → d ≡ Some o → x ≡ long_run f h o → x ≡ slash_run f h at
       unfolding slash_by
       slash_long x o e r = rw (slash_is f h at, ← is, e) r
 
-      pub slash_bad : d ≡ None → Bad ≡ slash_run f h at
+      pub slash_bad : d ≡ None → None ≡ slash_run f h at
       unfolding slash_by
       slash_bad e = rw (slash_is f h at, ← is, e)
 
-    pub section_slash : (x : Name) (b : ℕ) → b ≡ get_or f at 0 → eqb b SLASH ≡ true → x ≡ slash_run f h at → x ≡ section_run f h at
+    pub section_slash : (x : Option Name) (b : ℕ) → b ≡ get_or f at 0 → eqb b SLASH ≡ true → x ≡ slash_run f h at → x ≡ section_run f h at
     unfolding section_run pick
     section_slash x b e t p = rw (← e, t) p
 
-    pub section_short : (b n : ℕ) → b ≡ get_or f at 0 → eqb b SLASH ≡ false → n ≡ run f at NAME_SIZE → Good at n ≡ section_run f h at
+    pub section_short : (b n : ℕ) → b ≡ get_or f at 0 → eqb b SLASH ≡ false → n ≡ run f at NAME_SIZE → good_name at n ≡ section_run f h at
     unfolding section_run pick
     section_short b n e t q = rw (← e, t, q)
 
@@ -232,45 +232,45 @@ pub ruleset slash_ways = (digits_few, slash_alone, slash_digits_lem, slash_other
 
 pub ruleset section_name_ways = (section_slash, section_short)
 
-module _ (good : List ℕ → Bool) (f : List ℕ) (m : Name) where
-  module _ (at n : ℕ) (r : Bool) (s : List ℕ) (is : m ≡ Good at n) (bytes : s ≡ part f at n) (said : r ≡ good s) where
-    pub checked_yes : r ≡ true → Good at n ≡ checked good f m
+module _ (good : List ℕ → Bool) (f : List ℕ) (m : Option Name) where
+  module _ (at n : ℕ) (r : Bool) (s : List ℕ) (is : m ≡ good_name at n) (bytes : s ≡ part f at n) (said : r ≡ good s) where
+    pub checked_yes : r ≡ true → good_name at n ≡ checked good f m
     unfolding checked pick
     checked_yes t = rw (is, ← bytes, ← said, t)
 
-    pub checked_no : r ≡ false → Bad ≡ checked good f m
+    pub checked_no : r ≡ false → None ≡ checked good f m
     unfolding checked pick
     checked_no t = rw (is, ← bytes, ← said, t)
 
-  pub checked_bad : m ≡ Bad → Bad ≡ checked good f m
+  pub checked_bad : m ≡ None → None ≡ checked good f m
   unfolding checked
   checked_bad is = rw is
 
 pub ruleset checks = (checked_yes, checked_no, checked_bad)
 
-module _ (f : List ℕ) (m : Name) where
-  pub bytes_good : (at n : ℕ) (s : List ℕ) → m ≡ Good at n → s ≡ part f at n → s ≡ name_bytes f m
+module _ (f : List ℕ) (m : Option Name) where
+  pub bytes_good : (at n : ℕ) (s : List ℕ) → m ≡ good_name at n → s ≡ part f at n → s ≡ name_bytes f m
   unfolding name_bytes
   bytes_good at n s is e = rw is e
 
-  pub bytes_bad : m ≡ Bad → [] ≡ name_bytes f m
+  pub bytes_bad : m ≡ None → [] ≡ name_bytes f m
   unfolding name_bytes
   bytes_bad is = rw is
 
 -- whether it is good
-module _ (m : Name) where
-  pub name_good : (at n : ℕ) → m ≡ Good at n → true ≡ is_good m
+module _ (m : Option Name) where
+  pub name_good : (at n : ℕ) → m ≡ good_name at n → true ≡ is_good m
   name_good at n e = rw e
 
-  pub name_bad : m ≡ Bad → false ≡ is_good m
+  pub name_bad : m ≡ None → false ≡ is_good m
   name_bad e = rw e
 
 -- ---- a name by its record: where the record starts, the run there, and what is made of it
-module _ (f : List ℕ) (h : Header) (x : Name) (a b : ℕ) where
-  pub section_name_by_lem : {r : Name} → r ≡ checked good_section_name f x → x ≡ section_run f h a → a ≡ b → r ≡ checked good_section_name f (section_run f h b)
+module _ (f : List ℕ) (h : Header) (x : Option Name) (a b : ℕ) where
+  pub section_name_by_lem : {r : Option Name} → r ≡ checked good_section_name f x → x ≡ section_run f h a → a ≡ b → r ≡ checked good_section_name f (section_run f h b)
   section_name_by_lem p q e = rw (← e, ← q) p
 
-  pub symbol_name_by_lem : {r : Name} → r ≡ checked good_symbol_name f x → x ≡ symbol_run f h a → a ≡ b → r ≡ checked good_symbol_name f (symbol_run f h b)
+  pub symbol_name_by_lem : {r : Option Name} → r ≡ checked good_symbol_name f x → x ≡ symbol_run f h a → a ≡ b → r ≡ checked good_symbol_name f (symbol_run f h b)
   symbol_name_by_lem p q e = rw (← e, ← q) p
 
 -- ---- spans

@@ -1,4 +1,6 @@
 -- Laws of sections' names that rest on what a slash's digits come to, and so cannot stand beside that definition: an edit of it must stay readable there.
+use Rattle.names.specs.declared.Name.{Name}
+use Rattle.names.specs.Name.{good_name}
 use Rattle.std.specs.Prelude.{◌≡◌, refl, Bool, ◌&&◌, List, ℕ, suc, eqb, get_or, None, Option, Some}
 use Rattle.std.proofs.Common.{sym, ◌∙◌, arith}
 use Rattle.std.proofs.Math.Bool.{true, false}
@@ -9,13 +11,12 @@ use Rattle.le.specs.Le.{part}
 use Rattle.chars.specs.Chars.{good_section_name}
 use Rattle.object.specs.declared.Header.{Header}
 use Rattle.object.specs.Format.{NAME_SIZE, section_header_at}
-use Rattle.names.specs.declared.Name.TheVariants.{Good, Bad}
 use Rattle.names.specs.Bytes.{run, all_digits, decimal}
 use Rattle.names.specs.Name.{name_bytes, short_run, long_run, slash_run, slash_offset, slash_by, slash_digits, section_run, checked, section_name_at, section_name, SLASH, slash_span, section_span_at, span_text, section_text, name_refusal, digits_refusal}
 use Rattle.names.specs.NameLaws.{checked_is, slash_text, text_run}
 
 -- a section's that begins with a slash goes by the offset
-slash_picked : (f : List ℕ) (h : Header) (c : Bool) (o : ℕ) → pick c (long_run f h o) Bad ≡ slash_by f h (pick c (Some o) None)
+slash_picked : (f : List ℕ) (h : Header) (c : Bool) (o : ℕ) → pick c (long_run f h o) None ≡ slash_by f h (pick c (Some o) None)
 unfolding pick slash_by
 slash_picked f h true o = refl
 slash_picked f h false o = refl
@@ -37,11 +38,11 @@ module _ (f : List ℕ) (h : Header) (k : ℕ) where
 
 -- ---- a section's good name is what stands there
 module _ (f : List ℕ) (h : Header) (at n : ℕ) where
-  section_run_text : (field : ℕ) → section_run f h field ≡ Good at n → span_text f (section_span_at f h field) ≡ part f at n
+  section_run_text : (field : ℕ) → section_run f h field ≡ good_name at n → span_text f (section_span_at f h field) ≡ part f at n
   unfolding section_run section_span_at pick
   section_run_text field e = by_slash (eqb (get_or f field 0) SLASH) e
     where
-      by_slash : (b : Bool) → pick b (slash_run f h field) (short_run f field) ≡ Good at n
+      by_slash : (b : Bool) → pick b (slash_run f h field) (short_run f field) ≡ good_name at n
           → span_text f (pick b (slash_span f h (slash_offset f field)) (record { at = field; most = NAME_SIZE })) ≡ part f at n
       by_slash true q = slash_text f h at n (slash_offset f field) (sym (slash_is f h field) ∙ q)
       by_slash false q =
@@ -50,7 +51,7 @@ module _ (f : List ℕ) (h : Header) (at n : ℕ) where
           rw (← a, ← r) (sym (text_run f field NAME_SIZE))
 
 -- wherever a section's name is good, it is the bytes that it is looked for by
-pub section_name_text : (f : List ℕ) (h : Header) (i at n : ℕ) → section_name f h i ≡ Good at n → section_text f h i ≡ name_bytes f (section_name f h i)
+pub section_name_text : (f : List ℕ) (h : Header) (i at n : ℕ) → section_name f h i ≡ good_name at n → section_text f h i ≡ name_bytes f (section_name f h i)
 unfolding name_bytes
 section_name_text f h i at n e =
     rw e (section_run_text f h at n (section_header_at h i) (checked_is good_section_name f (section_run f h (section_header_at h i)) at n e))

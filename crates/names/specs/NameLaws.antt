@@ -1,5 +1,7 @@
 -- What a good name is: only bytes that a name may have, and an end where one is due (01, "Records").
 -- A byte past the file reads as 0; the survey's refusals 3 and 4 keep every field and the string table within it.
+use Rattle.names.specs.declared.Name.{Name}
+use Rattle.names.specs.Name.{good_name}
 use Rattle.std.specs.Prelude.{◌≡◌, refl, Bool, ◌&&◌, List, [], ◌∷◌, ◌⊎◌, ℕ, zero, suc, ◌+◌, ◌-◌, ◌≤◌, ◌<◌, min, eqb, length, get_or, take, drop, None, Option, Some}
 use Rattle.std.proofs.Common.{sym, ap, ◌∙◌, inl, inr, ⊎_elim, not-suc-le-zero, arith, drop_of_length-le, drop-cons, add-one}
 use Rattle.std.proofs.Math.Bool.{true, false}
@@ -15,8 +17,6 @@ use Rattle.chars.specs.WalkLaws.{Visible}
 use Rattle.chars.specs.GoodLaws.{Allowed, good_visible, good_some, good_allowed, good_well_formed}
 use Rattle.object.specs.declared.Header.{Header}
 use Rattle.object.specs.Format.{NAME_SIZE, LONG_OFFSET_AT, section_header_at, symbol_record_at, string_table, string_length}
-use Rattle.names.specs.declared.Name.{Name}
-use Rattle.names.specs.declared.Name.TheVariants.{Good, Bad}
 use Rattle.names.specs.Bytes.{run, up_to_zero, all_digits, decimal, are_same_bytes, UNDEF}
 use Rattle.names.specs.Name.{name_bytes, short_run, long_run, symbol_run, slash_run, slash_by, slash_digits, section_run, checked, section_name_at, symbol_name_at, section_name, symbol_name, SLASH, left_from, long_span, span_at, no_span, slash_span, span_text, symbol_text}
 
@@ -76,40 +76,38 @@ run_long f i n =
     ⊎_elim (λ h. let z : run f i n ≡ 0 = omega arith in rw (z, part_none f i)) (λ h. length_part f i (run f i n) (run_within f i n h)) (le_or_lt (run f i n) 0)
 
 -- ---- a name that passed its check
--- what is picked beside Bad and yet is good was picked, and is as it was
-taken : (t : Bool) (m : Name) (at n : ℕ) → pick t m Bad ≡ Good at n → t ≡ true
+-- what is picked beside no name and yet is good was picked, and is as it was
+taken : (t : Bool) (m : Option Name) (at n : ℕ) → pick t m None ≡ good_name at n → t ≡ true
 unfolding pick
 taken true m at n e = refl
 taken false m at n e = cc
 
-taken_is : (t : Bool) (m : Name) (at n : ℕ) → pick t m Bad ≡ Good at n → m ≡ Good at n
+taken_is : (t : Bool) (m : Option Name) (at n : ℕ) → pick t m None ≡ good_name at n → m ≡ good_name at n
 unfolding pick
 taken_is true m at n e = e
 taken_is false m at n e = cc
 
 -- a name that is taken passed its rule, on the bytes that it names
-pub checked_good : (good : List ℕ → Bool) (f : List ℕ) (m : Name) (at n : ℕ) → checked good f m ≡ Good at n → good (part f at n) ≡ true
+pub checked_good : (good : List ℕ → Bool) (f : List ℕ) (m : Option Name) (at n : ℕ) → checked good f m ≡ good_name at n → good (part f at n) ≡ true
 unfolding checked
-checked_good good f Bad at n e = cc
-checked_good good f (Good a b) at n e =
-    let t : good (part f a b) ≡ true = taken (good (part f a b)) (Good a b) at n e in
-    let q : Good a b ≡ Good at n = taken_is (good (part f a b)) (Good a b) at n e in
-    let x : a ≡ at = cc in
-    let y : b ≡ n = cc in
-    rw (← x, ← y) t
+checked_good good f None at n e = cc
+checked_good good f (Some m) at n e =
+    let t : good (part f m.at m.length) ≡ true = taken (good (part f m.at m.length)) (Some m) at n e in
+    let q : m ≡ record { at = at; length = n } = cc in
+    rw q at t
 
 -- the check moves nothing: the name stands where it was found
-pub checked_is : (good : List ℕ → Bool) (f : List ℕ) (m : Name) (at n : ℕ) → checked good f m ≡ Good at n → m ≡ Good at n
+pub checked_is : (good : List ℕ → Bool) (f : List ℕ) (m : Option Name) (at n : ℕ) → checked good f m ≡ good_name at n → m ≡ good_name at n
 unfolding checked
-checked_is good f Bad at n e = cc
-checked_is good f (Good a b) at n e = taken_is (good (part f a b)) (Good a b) at n e
+checked_is good f None at n e = cc
+checked_is good f (Some m) at n e = taken_is (good (part f m.at m.length)) (Some m) at n e
 
 -- ---- its bytes
 module _ (good : List ℕ → Bool) (P : ℕ → Type 0) (rule : (s : List ℕ) → good s ≡ true → (k : ℕ) → k < length s → P (get_or s k 0)) (f : List ℕ) (k : ℕ) where
-  bytes_are : (m c : Name) → checked good f m ≡ c → k < length (name_bytes f c) → P (get_or (name_bytes f c) k 0)
+  bytes_are : (m c : Option Name) → checked good f m ≡ c → k < length (name_bytes f c) → P (get_or (name_bytes f c) k 0)
   unfolding name_bytes
-  bytes_are m Bad e h = absurd (omega arith)
-  bytes_are m (Good at n) e h = rule (part f at n) (checked_good good f m at n e) k h
+  bytes_are m None e h = absurd (omega arith)
+  bytes_are m (Some n) e h = rule (part f n.at n.length) (checked_good good f m n.at n.length e) k h
 
 -- every byte of a section's name is 0x21 to 0x7E
 pub section_name_visible : (f : List ℕ) (h : Header) (i k : ℕ) → k < length (name_bytes f (section_name f h i)) → Visible (get_or (name_bytes f (section_name f h i)) k 0)
@@ -119,17 +117,17 @@ section_name_visible f h i k l = bytes_are good_section_name Visible good_visibl
 pub symbol_name_allowed : (f : List ℕ) (h : Header) (j k : ℕ) → k < length (name_bytes f (symbol_name f h j)) → Allowed (get_or (name_bytes f (symbol_name f h j)) k 0)
 symbol_name_allowed f h j k l = bytes_are good_symbol_name Allowed good_allowed f k (symbol_run f h (symbol_record_at h j)) (symbol_name f h j) refl l
 
-module _ (f : List ℕ) (h : Header) (j at n : ℕ) (e : symbol_name f h j ≡ Good at n) where
+module _ (f : List ℕ) (h : Header) (j at n : ℕ) (e : symbol_name f h j ≡ good_name at n) where
   passed : good_symbol_name (part f at n) ≡ true
   passed = checked_good good_symbol_name f (symbol_run f h (symbol_record_at h j)) at n e
 
   -- a symbol's good name is well-formed UTF-8
-  pub symbol_name_utf8 : well_formed (name_bytes f (Good at n)) ≡ true
+  pub symbol_name_utf8 : well_formed (name_bytes f (good_name at n)) ≡ true
   unfolding name_bytes
   symbol_name_utf8 = good_well_formed (part f at n) passed
 
   -- and is not empty
-  pub symbol_name_some : 0 < length (name_bytes f (Good at n))
+  pub symbol_name_some : 0 < length (name_bytes f (good_name at n))
   unfolding name_bytes
   symbol_name_some = good_some (part f at n) passed
 
@@ -160,7 +158,7 @@ field_run f field =
     }
 
 -- a short name: at most eight bytes, and a zero behind fewer
-pub short_name : (f : List ℕ) (field at n : ℕ) → short_run f field ≡ Good at n → InField f field at n
+pub short_name : (f : List ℕ) (field at n : ℕ) → short_run f field ≡ good_name at n → InField f field at n
 short_name f field at n e =
     let a : field ≡ at = cc in
     let r : run f field NAME_SIZE ≡ n = cc in
@@ -178,13 +176,13 @@ strings_run f h offset n r low k =
     }
 
 -- a long name: it starts at its offset, at least 4, and ends at a zero that lies within the table
-pub long_name : (f : List ℕ) (h : Header) (offset at n : ℕ) → long_run f h offset ≡ Good at n → InStrings f h offset at n
+pub long_name : (f : List ℕ) (h : Header) (offset at n : ℕ) → long_run f h offset ≡ good_name at n → InStrings f h offset at n
 unfolding long_run
 long_name f h offset at n e =
     let left = string_length f h - offset in
     let r = run f (string_table h + offset) left in
-    let t : leb 4 offset && ltb r left ≡ true = taken (leb 4 offset && ltb r left) (Good (string_table h + offset) r) at n e in
-    let q : Good (string_table h + offset) r ≡ Good at n = taken_is (leb 4 offset && ltb r left) (Good (string_table h + offset) r) at n e in
+    let t : leb 4 offset && ltb r left ≡ true = taken (leb 4 offset && ltb r left) (good_name (string_table h + offset) r) at n e in
+    let q : good_name (string_table h + offset) r ≡ good_name at n = taken_is (leb 4 offset && ltb r left) (good_name (string_table h + offset) r) at n e in
     let a : string_table h + offset ≡ at = cc in
     let b : r ≡ n = cc in
     let low = leb-true 4 offset (and_left (leb 4 offset) (ltb r left) t) in
@@ -205,28 +203,28 @@ pub data Found (f : List ℕ) (h : Header) (field at n : ℕ) : Type 0 where
 
 module _ (f : List ℕ) (h : Header) (field at n : ℕ) where
   -- whichever of two was picked
-  either : (t : Bool) (a b : Name) → (a ≡ Good at n → Found f h field at n) → (b ≡ Good at n → Found f h field at n) → pick t a b ≡ Good at n
+  either : (t : Bool) (a b : Option Name) → (a ≡ good_name at n → Found f h field at n) → (b ≡ good_name at n → Found f h field at n) → pick t a b ≡ good_name at n
       → Found f h field at n
   unfolding pick
   either true a b p q e = p e
   either false a b p q e = q e
 
-  short_found : short_run f field ≡ Good at n → Found f h field at n
+  short_found : short_run f field ≡ good_name at n → Found f h field at n
   short_found e = in_field (short_name f field at n e)
 
-  long_found : (offset : ℕ) → long_run f h offset ≡ Good at n → Found f h field at n
+  long_found : (offset : ℕ) → long_run f h offset ≡ good_name at n → Found f h field at n
   long_found o e = in_strings o (long_name f h o at n e)
 
-  bad_found : Bad ≡ Good at n → Found f h field at n
+  bad_found : None ≡ good_name at n → Found f h field at n
   bad_found e = absurd (let z : ◌≡◌ {A = ℕ} 0 1 = cc in omega arith)
 
   -- a section's good name stands in its field or in the string table
-  pub section_name_found : section_name_at f h field ≡ Good at n → Found f h field at n
+  pub section_name_found : section_name_at f h field ≡ good_name at n → Found f h field at n
   unfolding section_run slash_run
   section_name_found e =
       either (eqb (get_or f field 0) SLASH) (slash_run f h field) (short_run f field)
       (λ s.
-      either (leb 2 (run f field NAME_SIZE) && all_digits (slash_digits f field)) (long_run f h (decimal (slash_digits f field))) Bad
+      either (leb 2 (run f field NAME_SIZE) && all_digits (slash_digits f field)) (long_run f h (decimal (slash_digits f field))) None
       (λ l. long_found (decimal (slash_digits f field)) l)
       (λ b. bad_found b)
       s)
@@ -234,12 +232,12 @@ module _ (f : List ℕ) (h : Header) (field at n : ℕ) where
       (checked_is good_section_name f (section_run f h field) at n e)
 
   -- a symbol's good name stands in its field or in the string table
-  pub symbol_name_found : symbol_name_at f h field ≡ Good at n → Found f h field at n
+  pub symbol_name_found : symbol_name_at f h field ≡ good_name at n → Found f h field at n
   unfolding symbol_run
   symbol_name_found e =
-      either (eqb (get 4 f field) 0) (long_run f h (get 4 f (field + LONG_OFFSET_AT))) (pick (eqb (get_or f field 0) 0) Bad (short_run f field))
+      either (eqb (get 4 f field) 0) (long_run f h (get 4 f (field + LONG_OFFSET_AT))) (pick (eqb (get_or f field 0) 0) None (short_run f field))
       (λ l. long_found (get 4 f (field + LONG_OFFSET_AT)) l)
-      (λ s. either (eqb (get_or f field 0) 0) Bad (short_run f field) (λ b. bad_found b) (λ k. short_found k) s)
+      (λ s. either (eqb (get_or f field 0) 0) None (short_run f field) (λ b. bad_found b) (λ k. short_found k) s)
       (checked_is good_symbol_name f (symbol_run f h field) at n e)
 
 -- ---- the bytes where a symbol's name stands
@@ -288,55 +286,55 @@ text_run f i (suc n) =
 
 -- ---- a good name is what stands there
 module _ (f : List ℕ) (h : Header) (at n : ℕ) where
-  long_text : (offset : ℕ) → long_run f h offset ≡ Good at n → span_text f (long_span f h offset) ≡ part f at n
+  long_text : (offset : ℕ) → long_run f h offset ≡ good_name at n → span_text f (long_span f h offset) ≡ part f at n
   unfolding long_run long_span left_from pick
   long_text offset e =
       let left = string_length f h - offset in
       let r = run f (string_table h + offset) left in
-      let t : leb 4 offset && ltb r left ≡ true = taken (leb 4 offset && ltb r left) (Good (string_table h + offset) r) at n e in
-      let q : Good (string_table h + offset) r ≡ Good at n = taken_is (leb 4 offset && ltb r left) (Good (string_table h + offset) r) at n e in
+      let t : leb 4 offset && ltb r left ≡ true = taken (leb 4 offset && ltb r left) (good_name (string_table h + offset) r) at n e in
+      let q : good_name (string_table h + offset) r ≡ good_name at n = taken_is (leb 4 offset && ltb r left) (good_name (string_table h + offset) r) at n e in
       let a : string_table h + offset ≡ at = cc in
       let b : r ≡ n = cc in
       rw (and_left (leb 4 offset) (ltb r left) t, ← b, ← a) (sym (text_run f (string_table h + offset) left))
 
-  short_text : (field : ℕ) → pick (eqb (get_or f field 0) 0) Bad (short_run f field) ≡ Good at n → up_to_zero (part f field NAME_SIZE) ≡ part f at n
+  short_text : (field : ℕ) → pick (eqb (get_or f field 0) 0) None (short_run f field) ≡ good_name at n → up_to_zero (part f field NAME_SIZE) ≡ part f at n
   unfolding pick
   short_text field e = by_first (eqb (get_or f field 0) 0) e
     where
-      by_first : (b : Bool) → pick b Bad (short_run f field) ≡ Good at n → up_to_zero (part f field NAME_SIZE) ≡ part f at n
+      by_first : (b : Bool) → pick b None (short_run f field) ≡ good_name at n → up_to_zero (part f field NAME_SIZE) ≡ part f at n
       by_first true q = cc
       by_first false q =
           let a : field ≡ at = cc in
           let r : run f field NAME_SIZE ≡ n = cc in
           rw (← a, ← r) (sym (text_run f field NAME_SIZE))
 
-  run_text : (field : ℕ) → symbol_run f h field ≡ Good at n → span_text f (span_at f h field) ≡ part f at n
+  run_text : (field : ℕ) → symbol_run f h field ≡ good_name at n → span_text f (span_at f h field) ≡ part f at n
   unfolding symbol_run span_at pick
   run_text field e = by_long (eqb (get 4 f field) 0) e
     where
-      by_long : (b : Bool) → pick b (long_run f h (get 4 f (field + LONG_OFFSET_AT))) (pick (eqb (get_or f field 0) 0) Bad (short_run f field)) ≡ Good at n
+      by_long : (b : Bool) → pick b (long_run f h (get 4 f (field + LONG_OFFSET_AT))) (pick (eqb (get_or f field 0) 0) None (short_run f field)) ≡ good_name at n
           → span_text f (pick b (long_span f h (get 4 f (field + LONG_OFFSET_AT))) (record { at = field; most = NAME_SIZE })) ≡ part f at n
       by_long true q = long_text (get 4 f (field + LONG_OFFSET_AT)) q
       by_long false q = short_text field q
 
 -- wherever a symbol's name is good, it is the bytes that names are compared by
-pub symbol_name_text : (f : List ℕ) (h : Header) (j at n : ℕ) → symbol_name f h j ≡ Good at n → symbol_text f h j ≡ name_bytes f (symbol_name f h j)
+pub symbol_name_text : (f : List ℕ) (h : Header) (j at n : ℕ) → symbol_name f h j ≡ good_name at n → symbol_text f h j ≡ name_bytes f (symbol_name f h j)
 unfolding name_bytes
 symbol_name_text f h j at n e =
     rw e (run_text f h at n (symbol_record_at h j) (checked_is good_symbol_name f (symbol_run f h (symbol_record_at h j)) at n e))
 
 -- ---- the same of a section's
 module _ (f : List ℕ) (h : Header) (at n : ℕ) where
-  tail_text : (offset : ℕ) → long_run f h offset ≡ Good at n → span_text f (pick (ltb offset (string_length f h)) (long_span f h offset) no_span) ≡ part f at n
+  tail_text : (offset : ℕ) → long_run f h offset ≡ good_name at n → span_text f (pick (ltb offset (string_length f h)) (long_span f h offset) no_span) ≡ part f at n
   unfolding long_run pick
   tail_text offset e =
       let left = string_length f h - offset in
       let r = run f (string_table h + offset) left in
-      let t : leb 4 offset && ltb r left ≡ true = taken (leb 4 offset && ltb r left) (Good (string_table h + offset) r) at n e in
+      let t : leb 4 offset && ltb r left ≡ true = taken (leb 4 offset && ltb r left) (good_name (string_table h + offset) r) at n e in
       let k : r < left = ltb-true r left (and_right (leb 4 offset) (ltb r left) t) in
       rw (lt-ltb offset (string_length f h) (omega arith)) (long_text f h at n offset e)
 
-  pub slash_text : (d : Option ℕ) → slash_by f h d ≡ Good at n → span_text f (slash_span f h d) ≡ part f at n
+  pub slash_text : (d : Option ℕ) → slash_by f h d ≡ good_name at n → span_text f (slash_span f h d) ≡ part f at n
   unfolding slash_by slash_span
   slash_text (Some o) e = tail_text o e
   slash_text None e = cc

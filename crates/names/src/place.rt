@@ -124,34 +124,9 @@ fn section_run(f: &[u8], h: Header, at: usize) -> Option<Name>
     }
 }
 
-fn checked_section(f: &[u8], name: Option<Name>) -> Option<Name>
-    ensures { result ≡ checked good_section_name f.now name }
-{
-    match name {
-        Some(n) => {
-            if chars::good_section_name(le::part(f, at, n)) {
-                Name::Good(at, n)
-            } else {
-                None
-            }
-        }
-        None => None,
-    }
-}
-
-fn checked_symbol(f: &[u8], name: Option<Name>) -> Option<Name>
-    ensures { result ≡ checked good_symbol_name f.now name }
-{
-    match name {
-        Some(n) => {
-            if chars::good_symbol_name(le::part(f, at, n)) {
-                Name::Good(at, n)
-            } else {
-                None
-            }
-        }
-        None => None,
-    }
+// A name whose bytes obey the rule.
+fn checked<F: Fn(&[u8]) -> bool>(f: &[u8], name: Option<Name>, rule: F) -> Option<Name> {
+    name.filter(|n| rule(le::part(f, n.at, n.length)))
 }
 
 // The name of section i.
@@ -172,29 +147,24 @@ pub fn symbol_name(f: &[u8], h: Header, j: u32) -> Option<Name>
 pub fn name_start(name: Option<Name>) -> u64
     ensures { result ≡ name_start name }
 {
-    match name {
-        Some(n) => n.at as u64,
-        None => 0,
-    }
+    name.map_or(0, |n| n.at as u64)
 }
 
 // How long it is.
 pub fn name_length(name: Option<Name>) -> u64
     ensures { result ≡ name_length name }
 {
-    match name {
-        Some(n) => n.length as u64,
-        None => 0,
-    }
+    name.map_or(0, |n| n.length as u64)
 }
 
 // The bytes of a name: that part of the file; of a bad one none.
+#[tactic(auto, unfolding(crate::specs::Name::name_bytes))]
 pub fn name_bytes(f: &[u8], name: Option<Name>) -> &[u8]
     ensures { result.now ≡ name_bytes f.now name }
 {
     match name {
-        Some(n) => le::part(f, at, n),
-        None => &f[..0],
+        Some(n) => le::part(f, n.at, n.length),
+        None => &[],
     }
 }
 
@@ -202,10 +172,7 @@ pub fn name_bytes(f: &[u8], name: Option<Name>) -> &[u8]
 pub fn is_good(name: Option<Name>) -> bool
     ensures { result ≡ is_good name }
 {
-    match name {
-        Some(_) => true,
-        None => false,
-    }
+    name.is_some()
 }
 
 // What a table of `length` bytes has from `offset` on, behind its length field.

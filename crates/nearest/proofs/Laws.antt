@@ -1,4 +1,8 @@
 -- The walk from the front, as the code asks it.
+use Rattle.refusal.specs.declared.Refusal.TheVariants.{NoRoutine}
+use Rattle.nearest.specs.declared.Routine.{Routine}
+use Rattle.refusal.specs.declared.Refusal.{Refusal}
+use Rattle.std.specs.Prelude.{Result, Ok, Err}
 use mathlib.Core.Path.{◌≡◌, refl, sym, ◌∙◌}
 use mathlib.Core.Bool.{Bool, true, false, ◌&&◌}
 use mathlib.Core.List.{List}
@@ -12,12 +16,9 @@ use lib.Dec.{leb, eqb}
 use Rattle.util.specs.Pick.{yes_no, not_both, le_or_lt, and_left, and_right, and_both}
 use Rattle.le.specs.Le.{get}
 use Rattle.arch.specs.declared.VA.{VA}
-use Rattle.refusal.specs.Refusal.{NO_ROUTINE}
-use Rattle.refusal.specs.declared.Number.TheVariants.{Value, Refusal}
 use Rattle.words.specs.Words.{word_of}
 use Rattle.limits.specs.Records.{WORD, SYMBOL_WORDS}
 use Rattle.symbols.specs.Symbol.{symbol_count}
-use Rattle.nearest.specs.declared.RoutineAnswer.TheVariants.{Found, Refused}
 use Rattle.nearest.specs.Nearest.{row_address, row_home, qualifies, nearest_symbol, with_distance, nearest, comes_next}
 use Rattle.nearest.specs.NearestLaws.{Greatest, TakesNone, greatest_first, greatest_next, greatest_stays, none_more, greatest_is, none_is}
 
@@ -81,22 +82,22 @@ module _ (symbols : List ℕ) (home : ℕ) (x : VA) where
               w.so_far);
         }
 
-    pub walk_found : n ≡ symbol_count symbols → n ≤ k → best < n → Found (record { symbol = best; distance = x.0 - top }) ≡ nearest symbols home x
+    pub walk_found : n ≡ symbol_count symbols → n ≤ k → best < n → Ok (record { symbol = best; distance = x.0 - top }) ≡ nearest symbols home x
     unfolding with_distance
     walk_found c e l =
         let s : k ≡ symbol_count symbols = let u = w.within in omega arith in
         ⊎_elim
-        (λ g. let found : nearest_symbol symbols home x ≡ Value best = rw s at (greatest_is ok at k best g.0) in rw (found, g.1))
+        (λ g. let found : nearest_symbol symbols home x ≡ Ok best = rw s at (greatest_is ok at k best g.0) in rw (found, g.1))
         (λ o. absurd (let e = o.1.0 in omega arith))
         w.so_far
 
-    pub walk_none : n ≡ symbol_count symbols → n ≤ k → n ≤ best → Refused NO_ROUTINE ≡ nearest symbols home x
+    pub walk_none : n ≡ symbol_count symbols → n ≤ k → n ≤ best → Err NoRoutine ≡ nearest symbols home x
     unfolding with_distance
     walk_none c e l =
         let s : k ≡ symbol_count symbols = let u = w.within in omega arith in
         ⊎_elim
         (λ g. absurd (let u = g.0.below in let v = w.within in omega arith))
-        (λ o. let none : nearest_symbol symbols home x ≡ Refusal NO_ROUTINE = rw s at (none_is ok at k o.0) in rw none)
+        (λ o. let none : nearest_symbol symbols home x ≡ Err NoRoutine = rw s at (none_is ok at k o.0) in rw none)
         w.so_far
 
 pub ruleset walks = (walk_starts, walk_takes, walk_passes, walk_found, walk_none)

@@ -1,6 +1,9 @@
 -- What the nearest symbol promises.
+use Rattle.refusal.specs.declared.Refusal.TheVariants.{NoRoutine}
+use Rattle.nearest.specs.declared.Routine.{Routine}
+use Rattle.refusal.specs.declared.Refusal.{Refusal}
 use Rattle.std.proofs.Math.Path.{◌≡◌, ap}
-use Rattle.std.specs.Prelude.{refl, Bool, true, false, ◌||◌, List, ◌⊎◌, ℕ, zero, suc, ◌-◌, ◌<◌, ◌≤◌, eqb}
+use Rattle.std.specs.Prelude.{refl, Bool, true, false, ◌||◌, List, ◌⊎◌, ℕ, zero, suc, ◌-◌, ◌<◌, ◌≤◌, eqb, Result, Ok, Err}
 use Rattle.std.proofs.Common.{sym, ◌∙◌, inl, inr, arith, not-suc-le-zero, le_of_suc-le-suc, eq-or-lt_of_le}
 use Rattle.std.proofs.Math.Bool.{not, or-true}
 use Rattle.std.proofs.Math.Logic.{⊎_elim}
@@ -10,11 +13,8 @@ use Rattle.util.specs.Pick.{yes_no, le_or_lt, not_both, and_left, and_right, and
 use Rattle.util.specs.Prefix.{all_to, all_of, all_stop}
 use Rattle.arch.specs.declared.VA.{VA}
 use Rattle.refusal.specs.Refusal.{NO_ROUTINE}
-use Rattle.refusal.specs.declared.Number.TheVariants.{Value, Refusal}
 use Rattle.symbols.specs.Symbol.{symbol_count}
 use Rattle.symbols.specs.SymbolLaws.{last_is, last_none}
-use Rattle.nearest.specs.declared.RoutineAnswer.{RoutineAnswer}
-use Rattle.nearest.specs.declared.RoutineAnswer.TheVariants.{Found, Refused}
 use Rattle.nearest.specs.Nearest.{row_address, row_home, qualifies, is_greatest, last_greatest, with_distance, nearest}
 
 -- ---- of the first n, those that p takes: the last of the greatest
@@ -100,22 +100,22 @@ module _ (p : ℕ → Bool) (at : ℕ → ℕ) where
       (λ f. rw f)
       (yes_no (p j))
 
-  pub greatest_is : (n k : ℕ) → Greatest n k → last_greatest p at n ≡ Value k
+  pub greatest_is : (n k : ℕ) → Greatest n k → last_greatest p at n ≡ Ok k
   greatest_is n k g = last_is NO_ROUTINE (is_greatest p at n) n k g.below (no_greater n k g) (no_later n k g)
 
-  pub none_is : (n : ℕ) → TakesNone n → last_greatest p at n ≡ Refusal NO_ROUTINE
+  pub none_is : (n : ℕ) → TakesNone n → last_greatest p at n ≡ Err NoRoutine
   unfolding is_greatest
   none_is n o = last_none NO_ROUTINE (is_greatest p at n) n (λ j l. rw (o j l))
 
 -- ---- the answer for record r and an address
 -- its two numbers
-symbol_of : RoutineAnswer → ℕ
-symbol_of (Found a) = a.symbol
-symbol_of (Refused n) = n
+symbol_of : Result Routine Refusal → ℕ
+symbol_of (Ok a) = a.symbol
+symbol_of (Err n) = n
 
-distance_of : RoutineAnswer → ℕ
-distance_of (Found a) = a.distance
-distance_of (Refused n) = n
+distance_of : Result Routine Refusal → ℕ
+distance_of (Ok a) = a.distance
+distance_of (Err n) = n
 
 module _ (symbols : List ℕ) (r : ℕ) (x : VA) where
   -- symbol k of the list is the nearest of the record, and the address lies d behind it
@@ -175,12 +175,12 @@ module _ (symbols : List ℕ) (r : ℕ) (x : VA) where
       }
 
   -- what is the nearest is the answer
-  pub nearest_is_found : (k d : ℕ) → IsNearest k d → nearest symbols r x ≡ Found (record { symbol = k; distance = d })
+  pub nearest_is_found : (k d : ℕ) → IsNearest k d → nearest symbols r x ≡ Ok (record { symbol = k; distance = d })
   unfolding with_distance
   nearest_is_found k d i = rw (greatest_is taken (row_address symbols) (symbol_count symbols) k (is_top k d i), i.distance)
 
   -- and 21 it is where none qualifies
-  pub none_is_refused : NoneQualifies → nearest symbols r x ≡ Refused NO_ROUTINE
+  pub none_is_refused : NoneQualifies → nearest symbols r x ≡ Err NoRoutine
   unfolding with_distance
   none_is_refused o =
       rw (none_is taken (row_address symbols) (symbol_count symbols) (λ j l. ⊎_elim (λ t. absurd (o j l (home_qualifies j t) (address_qualifies j t))) (λ f. f) (yes_no (taken j))))
@@ -198,7 +198,7 @@ module _ (symbols : List ℕ) (r : ℕ) (x : VA) where
       (λ o. inr (λ j l h a. not_both (taken j) (does_qualify j h a) (o j l)))
       (some_or_none taken (row_address symbols) (symbol_count symbols))
 
-  pub found_is_nearest : (k d : ℕ) → nearest symbols r x ≡ Found (record { symbol = k; distance = d }) → IsNearest k d
+  pub found_is_nearest : (k d : ℕ) → nearest symbols r x ≡ Ok (record { symbol = k; distance = d }) → IsNearest k d
   unfolding symbol_of distance_of
   found_is_nearest k d e =
       ⊎_elim
@@ -206,7 +206,7 @@ module _ (symbols : List ℕ) (r : ℕ) (x : VA) where
       (λ o. let q = none_is_refused o in let z : ◌≡◌ {A = ℕ} 0 1 = cc in absurd (omega arith))
       one_or_none
 
-  pub refused_is_none : (c : ℕ) → nearest symbols r x ≡ Refused c → (c ≡ NO_ROUTINE) × NoneQualifies
+  pub refused_is_none : (c : ℕ) → nearest symbols r x ≡ Err c → (c ≡ NO_ROUTINE) × NoneQualifies
   refused_is_none c e =
       ⊎_elim
       (λ s. let q = nearest_is_found s.symbol s.distance s.it in let z : ◌≡◌ {A = ℕ} 0 1 = cc in absurd (omega arith))

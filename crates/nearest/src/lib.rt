@@ -8,7 +8,7 @@ ghost use Rattle.nearest.specs.Nearest.{comes_next, nearest};
 
 use arch::VA;
 use limits::{ADDRESS, SYMBOL_BYTES, SYMBOL_HOME, SYMBOL_WORDS, WORD};
-use refusal::NO_ROUTINE;
+use refusal::Refusal;
 
 // A symbol by its number in the list, from 0, and how far behind it the address lies.
 #[derive(Clone, Copy)]
@@ -46,7 +46,7 @@ fn comes_next(symbols: &[u8], home: u64, va: VA, top: u64, k: usize) -> bool
 }
 
 // Of the symbols with that home, at the address or below, the one with the greatest address; of several there the last.
-pub fn nearest(symbols: &[u8], home: u64, va: VA) -> RoutineAnswer
+pub fn nearest(symbols: &[u8], home: u64, va: VA) -> Result<Routine, Refusal>
     ensures { result ≡ nearest symbols.now home va }
 {
     let n = symbols.len() / SYMBOL_BYTES;
@@ -63,11 +63,11 @@ pub fn nearest(symbols: &[u8], home: u64, va: VA) -> RoutineAnswer
         }
     }
     if best < n {
-        RoutineAnswer::Found(Routine {
+        Ok(Routine {
             symbol: best as u64,
             distance: va.0 - top,
         })
     } else {
-        RoutineAnswer::Refused(NO_ROUTINE)
+        RoutineErr(Refusal::NoRoutine)
     }
 }

@@ -1,4 +1,7 @@
 -- What the code asks: pages against bytes, and each check's ways. Assumes nothing.
+use Rattle.refusal.specs.declared.Refusal.{Refusal}
+use Rattle.refusal.specs.Refusal.{Code}
+use Rattle.std.specs.Prelude.{Ok, Err, Result}
 use mathlib.Core.Path.{◌≡◌, refl, sym, ◌∙◌}
 use mathlib.Core.Bool.{Bool, true, false, ◌&&◌}
 use mathlib.Core.List.{List, append-nil}
@@ -11,9 +14,7 @@ use Rattle.util.specs.Pick.{pick, both_ways}
 use Rattle.util.specs.Prefix.{all_to, all_at, all_of, all_stop}
 use Rattle.arch.specs.Page.{PAGE_SIZE, page_of, on_page}
 use Rattle.le.specs.Le.{splice, part, splice_front}
-use Rattle.refusal.specs.Refusal.{number_of, Leaves, leaves_done}
-use Rattle.refusal.specs.declared.Answer.TheVariants.{Done}
-use Rattle.refusal.specs.declared.Number.{Number}
+use Rattle.refusal.specs.Refusal.{answer_of, Leaves, leaves_done}
 use Rattle.marks.specs.Marks.{WORD_BYTES, words_for, marked, all_marked}
 use Rattle.pagemap.specs.Pages.{lent_pages, storage_ok, mapped, span_mapped, probed, read_code, slice_code}
 use Rattle.pagemap.specs.PageLaws.{mapped_of, mapped_marked, read_in, slice_ordered, slice_in}
@@ -123,7 +124,7 @@ module _ (size : ℕ) (marks : List ℕ) (k : ℕ) where
 
 -- a buffer that is written from end to end
 pub into_done : (image marks buf x : List ℕ) (o k : ℕ) → k ≡ read_code (length image) marks o (length buf) → k ≡ 0
-    → x ≡ splice buf 0 (take (o + length buf - o) (drop o image)) → Leaves (read_code (length image) marks o (length buf)) buf (part image o (length buf)) x Done
+    → x ≡ splice buf 0 (take (o + length buf - o) (drop o image)) → Leaves (read_code (length image) marks o (length buf)) buf (part image o (length buf)) x (Ok tt)
 unfolding part
 into_done image marks buf x o k e z q =
     let h = read_end (length image) marks k o (length buf) e z in
@@ -136,6 +137,6 @@ into_done image marks buf x o k e z q =
 pub ruleset reads = (read_end, read_fits, into_done)
 
 -- the byte there
-pub byte_is : (image marks : List ℕ) (o k v : ℕ) (r : Number) → k ≡ read_code (length image) marks o 1 → v ≡ get_or image o 0 → r ≡ number_of k v
-    → r ≡ number_of (read_code (length image) marks o 1) (get_or image o 0)
+pub byte_is : (image marks : List ℕ) (o k v : ℕ) (r : Result ℕ Refusal) → k ≡ read_code (length image) marks o 1 → v ≡ get_or image o 0 → r ≡ answer_of k v
+    → r ≡ answer_of (read_code (length image) marks o 1) (get_or image o 0)
 byte_is image marks o k v r p q e = rw (← p, ← q) e

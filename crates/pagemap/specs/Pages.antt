@@ -3,7 +3,7 @@ use Rattle.std.specs.Prelude.{Bool, ◌&&◌, List, ℕ, ◌+◌, ◌-◌, ◌*�
 use Rattle.util.specs.Pick.{pick}
 use Rattle.util.specs.Prefix.{all_to}
 use Rattle.arch.specs.Page.{PAGE_SIZE, page_of, on_page}
-use Rattle.refusal.specs.Refusal.{STORAGE, NOT_MAPPED}
+use Rattle.refusal.specs.Refusal.{Code, PASSES, STORAGE, NOT_MAPPED}
 use Rattle.marks.specs.Marks.{WORD_BYTES, marked, words_for}
 
 -- how many pages an image of `size` bytes lends
@@ -27,12 +27,12 @@ unfoldable pub probed : ℕ → List ℕ → ℕ → Bool
 probed size marks o = storage_ok size (length marks) && mapped size marks o
 
 -- reading n bytes from o: 13, 15
-unfoldable pub read_code : ℕ → List ℕ → ℕ → ℕ → ℕ
-read_code size marks o n = pick (storage_ok size (length marks)) (pick (span_mapped size marks o n) 0 NOT_MAPPED) STORAGE
+unfoldable pub read_code : ℕ → List ℕ → ℕ → ℕ → Code
+read_code size marks o n = pick (storage_ok size (length marks)) (pick (span_mapped size marks o n) PASSES NOT_MAPPED) STORAGE
 
 -- reading from start up to end into a buffer of `room` bytes: a short buffer is 13 too, a start past the end 15
-unfoldable pub slice_code : ℕ → List ℕ → ℕ → ℕ → ℕ → ℕ
+unfoldable pub slice_code : ℕ → List ℕ → ℕ → ℕ → ℕ → Code
 slice_code size marks start end room =
     pick (storage_ok size (length marks) && leb (end - start) room)
-    (pick (leb start end && span_mapped size marks start (end - start)) 0 NOT_MAPPED)
+    (pick (leb start end && span_mapped size marks start (end - start)) PASSES NOT_MAPPED)
     STORAGE

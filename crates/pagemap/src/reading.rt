@@ -6,7 +6,7 @@ ghost use Rattle.pagemap.specs.Pages.{storage_ok, span_mapped, probed, read_code
 
 use arch::{PAGE_SIZE, RVA};
 use marks::WORD_BYTES;
-use refusal::{Answer, NOT_MAPPED, Number, STORAGE};
+use refusal::Refusal;
 
 // The image is whole pages, and there are marks for all of them. Both sizes are in bytes.
 pub fn storage_ok(size: u64, marks: u64) -> bool
@@ -53,15 +53,15 @@ pub fn read_code(size: u64, marks: &[u8], o: RVA, n: u64) -> u64
         if span_mapped(size, marks, o, n) {
             0
         } else {
-            NOT_MAPPED
+            Refusal::NotMapped
         }
     } else {
-        STORAGE
+        Refusal::Storage
     }
 }
 
 // The byte at the given offset.
-pub fn get(image: &[u8], marks: &[u8], rva: RVA) -> Number
+pub fn get(image: &[u8], marks: &[u8], rva: RVA) -> Result<u64, Refusal>
     ensures { result ≡ number_of (read_code (length image.now) marks.now rva.0 1) (get_or image.now rva.0 0) }
 {
     let code = read_code(image.len() as u64, marks, rva, 1);
@@ -69,7 +69,7 @@ pub fn get(image: &[u8], marks: &[u8], rva: RVA) -> Number
 }
 
 // The bytes from `start` on, as many as `buf` takes.
-pub fn slice_into(image: &[u8], marks: &[u8], start: RVA, buf: &mut [u8]) -> Answer
+pub fn slice_into(image: &[u8], marks: &[u8], start: RVA, buf: &mut [u8]) -> Result<(), Refusal>
     ensures { Leaves (read_code (length image.now) marks.now start.0 (length buf.old))
         buf.old (part image.now start.0 (length buf.old)) buf.new result }
 {
@@ -79,9 +79,9 @@ pub fn slice_into(image: &[u8], marks: &[u8], start: RVA, buf: &mut [u8]) -> Ans
         let from = start.0 as usize;
         let to = from + n;
         le::copy(buf, 0, &image[from..to]);
-        Answer::Done
+        Ok(())
     } else {
-        Answer::Refused(code)
+        Err(code)
     }
 }
 
@@ -98,21 +98,21 @@ fn slice_code(size: u64, marks: &[u8], start: RVA, end: RVA, room: u64) -> u64
                 if span_mapped(size, marks, start, n) {
                     0
                 } else {
-                    NOT_MAPPED
+                    Refusal::NotMapped
                 }
             } else {
-                STORAGE
+                Refusal::Storage
             }
         } else {
-            NOT_MAPPED
+            Refusal::NotMapped
         }
     } else {
-        STORAGE
+        Refusal::Storage
     }
 }
 
 // The bytes from `start` up to `end`, to the front of `buf`; a buffer that is too short is 13, and a start past the end 15.
-pub fn slice(image: &[u8], marks: &[u8], start: RVA, end: RVA, buf: &mut [u8]) -> Answer
+pub fn slice(image: &[u8], marks: &[u8], start: RVA, end: RVA, buf: &mut [u8]) -> Result<(), Refusal>
     ensures { Leaves (slice_code (length image.now) marks.now start.0 end.0 (length buf.old))
         buf.old (splice buf.old 0 (part image.now start.0 (end.0 - start.0))) buf.new result }
 {
@@ -121,8 +121,8 @@ pub fn slice(image: &[u8], marks: &[u8], start: RVA, end: RVA, buf: &mut [u8]) -
         let from = start.0 as usize;
         let to = end.0 as usize;
         le::copy(buf, 0, &image[from..to]);
-        Answer::Done
+        Ok(())
     } else {
-        Answer::Refused(code)
+        Err(code)
     }
 }

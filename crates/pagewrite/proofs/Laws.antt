@@ -1,4 +1,6 @@
 -- What the code asks: the marks' words and loops, and each check's ways. Assumes nothing.
+use Rattle.refusal.specs.Refusal.{Code}
+use Rattle.std.specs.Prelude.{Ok, Err}
 use mathlib.Core.Path.{◌≡◌, refl, sym, ◌∙◌}
 use mathlib.Core.Bool.{Bool, true, false}
 use mathlib.Core.List.{List, append-nil}
@@ -15,9 +17,7 @@ use Rattle.util.specs.Align.{round_up, up_not_below, align_exact}
 use Rattle.util.specs.Pick.{pick, head_passes, rest_passes}
 use Rattle.arch.specs.Page.{PAGE_SIZE}
 use Rattle.le.specs.Le.{get, le, splice, splice_front, splice_next}
-use Rattle.refusal.specs.Refusal.{done_of, unless_refused, Leaves, LeavesBoth}
-use Rattle.refusal.specs.declared.Answer.{Answer}
-use Rattle.refusal.specs.declared.Answer.TheVariants.{Done, Refused}
+use Rattle.refusal.specs.Refusal.{unless_refused, Leaves, LeavesBoth}
 use Rattle.marks.specs.Marks.{WORD_PAGES, WORD_BYTES}
 use Rattle.pagemap.specs.Pages.{storage_ok, read_code}
 use Rattle.pagemap.specs.PageLaws.{read_in}
@@ -91,13 +91,13 @@ cleared m x e =
     e ∙ splice_front m (replicate (length m) 0) (omega arith) ∙ rw (l, drop_of_length-le m {i = length m} (omega arith)) (append-nil (replicate (length m) 0))
 
 -- ---- a map of just the given items: the marks are cleared, then the items are written, or nothing is
-done_zero : (code : ℕ) → Done ≡ done_of code → code ≡ 0
+done_zero : (code : ℕ) → (Ok tt) ≡ code → code ≡ 0
 unfolding done_of
 done_zero zero e = refl
 done_zero (suc k) e = cc
 
-still : {A : Type 0} (code k : ℕ) (new old : A) → Refused k ≡ done_of code → unless_refused code new old ≡ old
-unfolding done_of unless_refused
+still : {A : Type 0} (code k : ℕ) (new old : A) → Err k ≡ code → unless_refused code new old ≡ old
+unfolding unless_refused
 still zero k new old e = cc
 still (suc c) k new old e = refl
 
@@ -111,9 +111,9 @@ capacity_room size marks n e =
     let u = up_not_below n PAGE_SIZE (omega arith) in
     rw (s, ne_eqb (n / PAGE_SIZE + 1) 0 (λ z. omega arith), le-leb (0 + (n / PAGE_SIZE + 1) * PAGE_SIZE) size (omega arith))
 
-module _ (image items marks m new x y : List ℕ) (a : ℕ) (r s : Answer) where
+module _ (image items marks m new x y : List ℕ) (a : ℕ) (r s : Code) where
   pub items_done : a ≡ round_up (length items) PAGE_SIZE % 2 ^ 64 → length items * 1 < 2 ^ 63
-      → Leaves (capacity_code (length image) (length marks) a) marks (replicate (length marks) 0) m s → s ≡ Done
+      → Leaves (capacity_code (length image) (length marks) a) marks (replicate (length marks) 0) m s → s ≡ (Ok tt)
       → LeavesBoth (padded_write_code (length image) (length m) 0 (length items)) image new x m (mark_pages m 0 (length items / PAGE_SIZE + 1)) y r
       → LeavesBoth (capacity_code (length image) (length marks) (round_up (length items) PAGE_SIZE)) image new x marks
       (mark_pages (replicate (length marks) 0) 0 (length items / PAGE_SIZE + 1)) y r
@@ -129,11 +129,11 @@ module _ (image items marks m new x y : List ℕ) (a : ℕ) (r s : Answer) where
       rw (← u, z) (record { says = rw p at w.says; leaves = rw p at w.leaves; leaves₂ = g c (rw p at w.leaves₂) })
 
   pub items_refused : (k : ℕ) → a ≡ round_up (length items) PAGE_SIZE % 2 ^ 64 → length items * 1 < 2 ^ 63
-      → Leaves (capacity_code (length image) (length marks) a) marks (replicate (length marks) 0) m s → s ≡ Refused k
-      → LeavesBoth (capacity_code (length image) (length marks) (round_up (length items) PAGE_SIZE)) image new image marks y m (Refused k)
+      → Leaves (capacity_code (length image) (length marks) a) marks (replicate (length marks) 0) m s → s ≡ Err k
+      → LeavesBoth (capacity_code (length image) (length marks) (round_up (length items) PAGE_SIZE)) image new image marks y m (Err k)
   items_refused k e f l d =
       let u : a ≡ round_up (length items) PAGE_SIZE = e ∙ align_exact (length items) PAGE_SIZE (omega arith) (omega arith) in
-      let t : Refused k ≡ done_of (capacity_code (length image) (length marks) a) = sym d ∙ l.says in
+      let t : Err k ≡ (capacity_code (length image) (length marks) a) = sym d ∙ l.says in
       rw (← u)
       (record {
         says = t;

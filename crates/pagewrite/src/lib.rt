@@ -15,11 +15,11 @@ ghost use Rattle.pagewrite.specs.PageWrite.{page_write_code, padded_write_code, 
 
 use arch::{PAGE_SIZE, RVA};
 use marking::mark_pages;
-use refusal::Answer;
+use refusal::Refusal;
 use refusals::{capacity_code, padded_write_code, page_write_code};
 
 // One byte at the given offset, which must be mapped: what the Rust does through `get_mut`.
-pub fn set(image: &mut [u8], marks: &[u8], rva: RVA, v: u8) -> Answer
+pub fn set(image: &mut [u8], marks: &[u8], rva: RVA, v: u8) -> Result<(), Refusal>
     ensures { Leaves (read_code (length image.old) marks.now rva.0 1)
         image.old (List·set image.old rva.0 v) image.new result }
 {
@@ -27,14 +27,14 @@ pub fn set(image: &mut [u8], marks: &[u8], rva: RVA, v: u8) -> Answer
     if code == 0 {
         let at = rva.0 as usize;
         image[at] = v;
-        Answer::Done
+        Ok(())
     } else {
-        Answer::Refused(code)
+        Err(code)
     }
 }
 
 // Maps the given items, whole pages of them, at the given offset.
-pub fn write(image: &mut [u8], marks: &mut [u8], rva: RVA, items: &[u8]) -> Answer
+pub fn write(image: &mut [u8], marks: &mut [u8], rva: RVA, items: &[u8]) -> Result<(), Refusal>
     ensures { LeavesBoth (page_write_code (length image.old) (length marks.old) rva.0 (length items.now))
         image.old (splice image.old rva.0 items.now) image.new
         marks.old (mark_pages marks.old (page_of rva.0) (whole_pages (length items.now))) marks.new result }
@@ -44,14 +44,14 @@ pub fn write(image: &mut [u8], marks: &mut [u8], rva: RVA, items: &[u8]) -> Answ
     if code == 0 {
         le::copy(image, rva.0 as usize, items);
         mark_pages(marks, rva.0 / PAGE_SIZE, n / PAGE_SIZE);
-        Answer::Done
+        Ok(())
     } else {
-        Answer::Refused(code)
+        Err(code)
     }
 }
 
 // Maps pages of zeros, `size` bytes of them, at the given offset.
-pub fn map_empty(image: &mut [u8], marks: &mut [u8], rva: RVA, size: u64) -> Answer
+pub fn map_empty(image: &mut [u8], marks: &mut [u8], rva: RVA, size: u64) -> Result<(), Refusal>
     ensures { LeavesBoth (page_write_code (length image.old) (length marks.old) rva.0 size)
         image.old (splice image.old rva.0 (replicate size 0)) image.new
         marks.old (mark_pages marks.old (page_of rva.0) (whole_pages size)) marks.new result }
@@ -60,14 +60,14 @@ pub fn map_empty(image: &mut [u8], marks: &mut [u8], rva: RVA, size: u64) -> Ans
     if code == 0 {
         le::zero(image, rva.0 as usize, size as usize);
         mark_pages(marks, rva.0 / PAGE_SIZE, size / PAGE_SIZE);
-        Answer::Done
+        Ok(())
     } else {
-        Answer::Refused(code)
+        Err(code)
     }
 }
 
 // Maps the given items at the given offset and zeros to the end of their last page; a whole number of pages is followed by one of zeros.
-pub fn writezx(image: &mut [u8], marks: &mut [u8], rva: RVA, items: &[u8]) -> Answer
+pub fn writezx(image: &mut [u8], marks: &mut [u8], rva: RVA, items: &[u8]) -> Result<(), Refusal>
     ensures { LeavesBoth (padded_write_code (length image.old) (length marks.old) rva.0 (length items.now))
         image.old (splice image.old rva.0 (padded items.now)) image.new
         marks.old (mark_pages marks.old (page_of rva.0) (padded_pages (length items.now))) marks.new result }
@@ -80,14 +80,14 @@ pub fn writezx(image: &mut [u8], marks: &mut [u8], rva: RVA, items: &[u8]) -> An
         let pages = n / PAGE_SIZE + 1;
         le::zero(image, at + n as usize, (pages * PAGE_SIZE - n) as usize);
         mark_pages(marks, rva.0 / PAGE_SIZE, pages);
-        Answer::Done
+        Ok(())
     } else {
-        Answer::Refused(code)
+        Err(code)
     }
 }
 
 // A map with nothing mapped, for offsets up to `capacity`: the marks are cleared.
-pub fn with_capacity(image: &[u8], marks: &mut [u8], capacity: RVA) -> Answer
+pub fn with_capacity(image: &[u8], marks: &mut [u8], capacity: RVA) -> Result<(), Refusal>
     ensures { Leaves (capacity_code (length image.now) (length marks.old) capacity.0)
         marks.old (replicate (length marks.old) 0) marks.new result }
 {
@@ -95,21 +95,21 @@ pub fn with_capacity(image: &[u8], marks: &mut [u8], capacity: RVA) -> Answer
     let code = capacity_code(image.len() as u64, n as u64, capacity);
     if code == 0 {
         le::zero(marks, 0, n);
-        Answer::Done
+        Ok(())
     } else {
-        Answer::Refused(code)
+        Err(code)
     }
 }
 
 // A map with just the given items, from offset 0.
-pub fn from_items(image: &mut [u8], marks: &mut [u8], items: &[u8]) -> Answer
+pub fn from_items(image: &mut [u8], marks: &mut [u8], items: &[u8]) -> Result<(), Refusal>
     ensures { LeavesBoth (capacity_code (length image.old) (length marks.old) (round_up (length items.now) PAGE_SIZE))
         image.old (splice image.old 0 (padded items.now)) image.new
         marks.old (mark_pages (replicate (length marks.old) 0) 0 (padded_pages (length items.now))) marks.new result }
 {
     let capacity = RVA(util::align(items.len() as u64, PAGE_SIZE));
     match with_capacity(image, marks, capacity) {
-        Answer::Done => writezx(image, marks, RVA(0), items),
-        Answer::Refused(code) => Answer::Refused(code),
+        Ok(()) => writezx(image, marks, RVA(0), items),
+        Err(code) => Err(code),
     }
 }

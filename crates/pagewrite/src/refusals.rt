@@ -3,7 +3,7 @@ ghost use Rattle.std.specs.Prelude.{◌≡◌};
 ghost use Rattle.pagewrite.specs.PageWrite.{pages_lent, page_write_code, padded_write_code, capacity_code};
 
 use arch::{PAGE_SIZE, RVA};
-use refusal::{NOT_MAPPED, NOT_ON_A_PAGE, NOT_WHOLE_PAGES, STORAGE};
+use refusal::Refusal;
 
 // n pages from `o` are lent; none are anywhere.
 fn pages_lent(size: u64, o: RVA, n: u64) -> bool
@@ -33,16 +33,16 @@ pub(crate) fn page_write_code(size: u64, marks: u64, o: RVA, n: u64) -> u64
                 if pages_lent(size, o, n / PAGE_SIZE) {
                     0
                 } else {
-                    NOT_MAPPED
+                    Refusal::NotMapped
                 }
             } else {
-                NOT_WHOLE_PAGES
+                Refusal::NotWholePages
             }
         } else {
-            NOT_ON_A_PAGE
+            Refusal::NotOnAPage
         }
     } else {
-        STORAGE
+        Refusal::Storage
     }
 }
 
@@ -56,13 +56,13 @@ pub(crate) fn padded_write_code(size: u64, marks: u64, o: RVA, n: u64) -> u64
             if pages_lent(size, o, n / PAGE_SIZE + 1) {
                 0
             } else {
-                NOT_MAPPED
+                Refusal::NotMapped
             }
         } else {
-            NOT_ON_A_PAGE
+            Refusal::NotOnAPage
         }
     } else {
-        STORAGE
+        Refusal::Storage
     }
 }
 
@@ -72,8 +72,8 @@ pub(crate) fn capacity_code(size: u64, marks: u64, capacity: RVA) -> u64
 {
     if pagemap::storage_ok(size, marks) {
         let room = capacity.0 / PAGE_SIZE + 1 <= size / PAGE_SIZE;
-        if room { 0 } else { STORAGE }
+        if room { 0 } else { Refusal::Storage }
     } else {
-        STORAGE
+        Refusal::Storage
     }
 }

@@ -1,4 +1,7 @@
 -- The ways through the code. Assumes nothing.
+use Rattle.patch.specs.declared.answer.Progress.{Progress}
+use Rattle.refusal.specs.declared.Refusal.{Refusal}
+use Rattle.std.specs.Prelude.{Result, Ok, Err}
 use Rattle.std.proofs.Common.{◌≡◌, ℕ, zero, suc, ◌+◌, ◌-◌, ◌*◌, ◌%◌, ◌^◌, ◌<◌, ◌≤◌, Bool, true, false, ◌&&◌, eqb, leb, List, length, take, drop, sym, refl, ap, ◌∙◌, append_assoc, append-nil, zero-add, arith, length-drop, drop_of_length-le, length-take, ne_eqb, le-leb, leb-true}
 use lib.Seq.{sets-eq}
 use borrow.Rule.Slice.PartMut.{put_mid, Post-is}
@@ -13,7 +16,6 @@ use Rattle.refusal.specs.Refusal.{new_is, old_is}
 use Rattle.pagemap.specs.Pages.{lent_pages, storage_ok}
 use Rattle.pagemap.specs.PageLaws.{storage_whole}
 use Rattle.aspace.specs.Space.{span_mapped_at}
-use Rattle.patch.specs.declared.answer.Patch.TheVariants.{Applied, Refused}
 use Rattle.patch.specs.Fixes.{NARROW, WIDE, NARROW_BYTES, WIDE_BYTES, fix_count, place_at, bits_at, value_at, width_of, known_bits, fix_ok, fixed, fixed_from, length_from}
 use Rattle.patch.specs.Inside.{span_in, fix_in, portion_in, all_mapped, portion_inside, mapped_room, mapped_below, portion_same}
 use Rattle.patch.specs.Patch.{portion, portion_ok, patch_code, answer_of, patch_answer, Patches}
@@ -210,7 +212,7 @@ module _ (marks : List ℕ) (base : ℕ) (fixes image : List ℕ) (number positi
       rw w (portion_inside (length image) marks base fixes position m (head_passes all 0 15 mapped (λ q. omega arith)))
 
   pub patch_yes : code ≡ 0 → (count n : ℕ) (after : List ℕ) → count ≡ fix_count fixes → n ≡ portion count number position → after ≡ fixed_from base fixes image position n
-      → Patches base marks fixes number position image after (Applied (record { position = position + n; done = eqb (position + n) count }))
+      → Patches base marks fixes number position image after (Ok (record { position = position + n; done = eqb (position + n) count }))
   unfolding answer_of
   patch_yes z count n after e q x =
       let c : patch_code (length image) marks base fixes number position ≡ 0 = sym is ∙ z in
@@ -218,12 +220,12 @@ module _ (marks : List ℕ) (base : ℕ) (fixes image : List ℕ) (number positi
       record { says = rw (c, e, w); leaves = new_is code _ _ _ after is z (rw w at x) }
 
   no_is : (k : ℕ) → k ≡ patch_code (length image) marks base fixes number position → (k ≡ 0 → ⊥)
-      → Refused k ≡ patch_answer (patch_code (length image) marks base fixes number position) (fix_count fixes) number position
+      → Err k ≡ patch_answer (patch_code (length image) marks base fixes number position) (fix_count fixes) number position
   unfolding answer_of
   no_is zero e n = absurd (n refl)
   no_is (suc k) e n = rw (← e)
 
-  pub patch_no : (code ≡ 0 → ⊥) → Patches base marks fixes number position image image (Refused code)
+  pub patch_no : (code ≡ 0 → ⊥) → Patches base marks fixes number position image image (Err code)
   patch_no z = record { says = no_is code is z; leaves = old_is code _ _ image is z }
 
 pub ruleset patch_ways = (from_long, portion_fits, inside_is, inside_all, patch_yes, patch_no)

@@ -243,13 +243,13 @@ fn patch_code(size: u64, marks: &[u8], base: VA, fixes: &[u8], number: u64, posi
             ) {
                 0
             } else {
-                refusal::NOT_MAPPED
+                Refusal::NotMapped
             }
         } else {
-            refusal::STORAGE
+            Refusal::Storage
         }
     } else {
-        refusal::POSITION
+        Refusal::Position
     }
 }
 
@@ -261,7 +261,7 @@ pub fn patch(
     fixes: &[u8],
     number: u64,
     position: u64,
-) -> Patch
+) -> Result<Progress, Refusal>
     ensures { Patches base.0 marks.now fixes.now number position image.old image.new result }
 {
     let code = patch_code(image.len() as u64, marks, base, fixes, number, position);
@@ -271,11 +271,11 @@ pub fn patch(
         apply_portion(base, fixes, position, n, image);
         let next = position + n;
         let done = next == count;
-        Patch::Applied(Progress {
+        Ok(Progress {
             position: next,
             done: done,
         })
     } else {
-        Patch::Refused(code)
+        Err(code)
     }
 }

@@ -1,4 +1,7 @@
 -- The ways through the code. Assumes nothing.
+use Rattle.refusal.specs.declared.Refusal.TheVariants.{Externs, Pages, Storage}
+use Rattle.refusal.specs.declared.Refusal.{Refusal}
+use Rattle.std.specs.Prelude.{Result, Ok, Err, Option, Some, None}
 use mathlib.Core.Path.{◌≡◌, refl, sym, ap, ◌∙◌}
 use mathlib.Core.Bool.{Bool, true, false, ◌&&◌}
 use mathlib.Core.List.{List, [], ◌∷◌, ◌++◌}
@@ -25,8 +28,6 @@ use Rattle.homes.specs.Home.{homes_to, home_in, section_home}
 use Rattle.checks.specs.Checks.{pages_ok, base_ok}
 use Rattle.checks.specs.CheckLaws.{pages_are}
 use Rattle.codes.specs.Code.{codes_to}
-use Rattle.externs.specs.declared.Names.{Names}
-use Rattle.externs.specs.declared.Names.TheVariants.{TooMany, Count}
 use Rattle.externs.specs.Externs.{externs, names_of, slot_words, Holds}
 use Rattle.externs.specs.Slotted.{slotted, CodesAfter}
 use Rattle.externs.specs.ExternLaws.{kept_holds, over_length, count_room, count_list}
@@ -35,16 +36,11 @@ use Rattle.targets.specs.Target.{targets}
 use Rattle.targets.specs.Table.{target_in}
 use Rattle.fixups.specs.declared.Tally.{Tally}
 use Rattle.survey.specs.declared.answer.Counts.{Counts}
-use Rattle.survey.specs.declared.answer.Survey.{Survey}
-use Rattle.survey.specs.declared.answer.Survey.TheVariants as survey
 use Rattle.survey.specs.Survey.{Check, check, first_failed, early_checks, page_checks, extern_checks, target_checks, counts, tally, tally_by, answer_by}
 use Rattle.survey.specs.Surveying.{Fits, behind_pages, planned_by, names_in, home_words, code_words, Cleared}
 use Rattle.survey.specs.TableLaws.{homes_whole, records_whole, names_whole, targets_whole}
 use Rattle.survey.specs.SurveyLaws.{check_holds, checks_hold, failed_first, Early, Ordered, early, early_rest, with_pages, records_rest, fits_is}
 use Rattle.plan.specs.declared.Lengths.{Lengths}
-use Rattle.plan.specs.declared.Plan.{Plan}
-use Rattle.plan.specs.declared.Plan.TheVariants as plan
-use Rattle.plan.specs.declared.Plan.TheVariants.{Ready}
 use Rattle.plan.specs.Plan.{layout_room, lists_room, room_for, room_check, plan_checks, plan_by, Blank, Found, Plans}
 use Rattle.plan.specs.Planning.{first_checks, with_room, planned_counts, late_plan, PlannedIn}
 
@@ -86,17 +82,17 @@ module _ (c : Counts) (l : Lengths) where
 pub ruleset rooms = (layout_is, lists_are, room_is)
 
 -- ---- 13 behind survey's answer
-module _ (s : Survey) (l : Lengths) (n : ℕ) where
-  pub room_refused : (k : ℕ) → s ≡ survey.Refused k → plan.Refused k ≡ with_room s l n
+module _ (s : Result Counts Refusal) (l : Lengths) (n : ℕ) where
+  pub room_refused : (k : ℕ) → s ≡ Err k → Err k ≡ with_room s l n
   unfolding with_room
   room_refused k e = rw e
 
-  module _ (c : Counts) (is : s ≡ survey.Accepted c) (b : Bool) (room : b ≡ room_for c l) where
+  module _ (c : Counts) (is : s ≡ Ok c) (b : Bool) (room : b ≡ room_for c l) where
     pub room_yes : b ≡ true → Ready c n ≡ with_room s l n
     unfolding with_room pick
     room_yes e = rw (is, ← room, e)
 
-    pub room_no : b ≡ false → plan.Refused STORAGE ≡ with_room s l n
+    pub room_no : b ≡ false → Err Storage ≡ with_room s l n
     unfolding with_room pick
     room_no e = rw (is, ← room, e)
 
@@ -112,15 +108,15 @@ targets_rest : (t : Tally) (cs : List Check) → first_failed (target_checks t) 
 unfolding first_failed pick
 targets_rest t cs e = let p = targets_pass t e in rw (p.0, p.1)
 
-pages_pass : (f : List ℕ) (h : Header) (s : Survey) → mapped_pages f h ≤ MAX_PAGES → behind_pages f h s ≡ s
+pages_pass : (f : List ℕ) (h : Header) (s : Result Counts Refusal) → mapped_pages f h ≤ MAX_PAGES → behind_pages f h s ≡ s
 unfolding pick
 pages_pass f h s k = rw (le-leb (mapped_pages f h) MAX_PAGES k)
 
-plan_refused : (k : ℕ) (c : Counts) (n : ℕ) → plan.Refused (suc k) ≡ plan_by (suc k) c n
+plan_refused : (k : ℕ) (c : Counts) (n : ℕ) → Err (suc k) ≡ plan_by (suc k) c n
 unfolding plan_by pick
 plan_refused k c n = rw (ne_eqb (suc k) 0 (λ z. absurd (omega arith)))
 
-by_room : (b : Bool) (c : Counts) (n : ℕ) → pick b (Ready c n) (plan.Refused STORAGE) ≡ plan_by (pick b 0 STORAGE) c n
+by_room : (b : Bool) (c : Counts) (n : ℕ) → pick b (Ready c n) (Err Storage) ≡ plan_by (pick b 0 STORAGE) c n
 unfolding plan_by pick
 by_room true c n = refl
 by_room false c n = refl
@@ -132,12 +128,12 @@ by_answer t c l n (suc k) e =
     let z : eqb (suc k) 0 ≡ false = ne_eqb (suc k) 0 (λ z. absurd (omega arith)) in
     rw (z, failed_first (target_checks t) (room_check c l) k e) (plan_refused k c n)
 
-count_of : Names → ℕ
-count_of (Count n) = n
-count_of TooMany = 0
+count_of : Option ℕ → ℕ
+count_of (Some n) = n
+count_of None = 0
 
 -- ---- 9 and what follows
-module _ (f : List ℕ) (h : Header) (homes codes : List ℕ) (l : Lengths) (codes' buf : List ℕ) (r : Names) (says : r ≡ names_of (names_in f h codes))
+module _ (f : List ℕ) (h : Header) (homes codes : List ℕ) (l : Lengths) (codes' buf : List ℕ) (r : Option ℕ) (says : r ≡ names_of (names_in f h codes))
     (words : buf ≡ slot_words (names_in f h codes)) (coded : CodesAfter f h codes (names_in f h codes) codes') where
   abbrev ys : List ℕ
   ys = names_in f h codes
@@ -148,13 +144,13 @@ module _ (f : List ℕ) (h : Header) (homes codes : List ℕ) (l : Lengths) (cod
   holds : Holds ys buf r
   holds = kept_holds ys buf r says words
 
-  pub plan_over : r ≡ TooMany → PlannedIn f h homes codes l codes' buf (plan.Refused EXTERNS)
+  pub plan_over : r ≡ None → PlannedIn f h homes codes l codes' buf (Err Externs)
   unfolding first_failed pick
   plan_over e =
       let z : leb (length ys) MAX_EXTERNS ≡ false = lt-leb (length ys) MAX_EXTERNS (over_length ys buf r holds e) in
       record { says = rw z (plan_refused (EXTERNS - 1) (planned_counts f h (home_in homes) target (length ys) l) (length ys)); words = words; coded = coded }
 
-  pub plan_few : (n : ℕ) (u : RVA) (v : Survey) (x : Plan) → mapped_pages f h ≤ MAX_PAGES → u ≡ rva (undef_start f h) → r ≡ Count n
+  pub plan_few : (n : ℕ) (u : RVA) (v : Result Counts Refusal) (x : Result (Counts × ℕ) Refusal) → mapped_pages f h ≤ MAX_PAGES → u ≡ rva (undef_start f h) → r ≡ Some n
       → (u ≡ rva (undef_start f h) → v ≡ planned_by f h (home_in homes) (target_in homes (undef_start f h) codes') n) → x ≡ with_room v l n
       → PlannedIn f h homes codes l codes' buf x
   unfolding first_failed pick count_of
@@ -167,7 +163,7 @@ module _ (f : List ℕ) (h : Header) (homes codes : List ℕ) (l : Lengths) (cod
       let t = tally_by f h (home_in homes) target in
       let c = planned_counts f h (home_in homes) target (length ys) l in
       let a : v ≡ answer_by (first_failed (target_checks t)) c = rw (g, m) at (d start) ∙ pages_pass f h (answer_by (first_failed (target_checks t)) c) room in
-      record { says = rw z (y ∙ ap (λ (u : Survey). with_room u l n) a ∙ by_answer t c l n (first_failed (target_checks t)) refl ∙ ap (plan_by (first_failed (target_checks t ++ room_check c l)) c) m); words = words; coded = coded }
+      record { says = rw z (y ∙ ap (λ (u : Result Counts Refusal). with_room u l n) a ∙ by_answer t c l n (first_failed (target_checks t)) refl ∙ ap (plan_by (first_failed (target_checks t ++ room_check c l)) c) m); words = words; coded = coded }
 
 pub ruleset naming = (plan_over, plan_few)
 
@@ -198,17 +194,17 @@ module _ (f : List ℕ) (h : Header) (base : ℕ) (l : Lengths) (code : ℕ) (ho
   abbrev whole : ℕ
   whole = first_failed (plan_checks f h base l)
 
-  no_by : (homes codes slots : List ℕ) (k : ℕ) → whole ≡ suc k → Plans f (header_of f) base l homes codes slots (plan.Refused (suc k))
+  no_by : (homes codes slots : List ℕ) (k : ℕ) → whole ≡ suc k → Plans f (header_of f) base l homes codes slots (Err (suc k))
   no_by homes codes slots k g =
-      let p : Plans f h base l homes codes slots (plan.Refused (suc k)) =
+      let p : Plans f h base l homes codes slots (Err (suc k)) =
       record { says = rw g (plan_refused k (counts f h) (length (externs f h))); found = λ e. absurd (omega arith) } in
       rw (← head) p
 
-  first_no : (k : ℕ) → k ≡ first_failed (first_checks f h base) → (k ≡ 0 → ⊥) → Plans f (header_of f) base l homes₀ codes₀ slots₀ (plan.Refused k)
+  first_no : (k : ℕ) → k ≡ first_failed (first_checks f h base) → (k ≡ 0 → ⊥) → Plans f (header_of f) base l homes₀ codes₀ slots₀ (Err k)
   first_no zero e z = absurd (z refl)
   first_no (suc k) e z = no_by homes₀ codes₀ slots₀ k (failed_first (first_checks f h base) (page_checks f h ++ behind) k (sym e))
 
-  pub plans_no : (code ≡ 0 → ⊥) → Blank (header_of f) homes₀ codes₀ slots₀ → Plans f (header_of f) base l homes₀ codes₀ slots₀ (plan.Refused code)
+  pub plans_no : (code ≡ 0 → ⊥) → Blank (header_of f) homes₀ codes₀ slots₀ → Plans f (header_of f) base l homes₀ codes₀ slots₀ (Err code)
   plans_no z blank = first_no code is z
 
   -- 8
@@ -217,11 +213,11 @@ module _ (f : List ℕ) (h : Header) (base : ℕ) (l : Lengths) (code : ℕ) (ho
   whole_pages_lem z t = rw (allowed f h base code is z) (early_rest f h (page_checks f h ++ behind) (seven f h base code is z) ∙ rw t)
 
   pub plans_large : (homes : List ℕ) (b : Bool) (u : RVA) → code ≡ 0 → b ≡ leb (pages_to u.0) MAX_PAGES → b ≡ false → u ≡ rva (undef_start f h)
-      → Blank (header_of f) homes₀ codes₀ slots₀ → Plans f (header_of f) base l homes codes₀ slots₀ (plan.Refused PAGES)
+      → Blank (header_of f) homes₀ codes₀ slots₀ → Plans f (header_of f) base l homes codes₀ slots₀ (Err Pages)
   plans_large homes b u z q e start blank = no_by homes codes₀ slots₀ (PAGES - 1) (whole_pages_lem z (sym (pages_are f h b u q start) ∙ e))
 
   -- with the words filled, the plan by them is the one by the rules, and where it is ready they say what the rules do
-  module _ (ok : Ordered f h) (fits : Fits f h) (codes slots : List ℕ) (x : Plan) (p : PlannedIn f h (home_words f h) (code_words f h) l codes slots x) where
+  module _ (ok : Ordered f h) (fits : Fits f h) (codes slots : List ℕ) (x : Result (Counts × ℕ) Refusal) (p : PlannedIn f h (home_words f h) (code_words f h) l codes slots x) where
     whole_plan : late_plan f h (home_in (home_words f h)) (target_in (home_words f h) (undef_start f h) (slotted f h (externs f h) (code_words f h))) (length (externs f h)) l
         ≡ late_plan f h (section_home f h) (targets f h) (length (externs f h)) l
     unfolding first_failed plan_by pick
@@ -253,7 +249,7 @@ module _ (f : List ℕ) (h : Header) (base : ℕ) (l : Lengths) (code : ℕ) (ho
   unfolding first_failed pick
   whole_is a o = rw a (records_rest f h behind o)
 
-  pub plans_yes : (homes codes codes' slots : List ℕ) (x : Plan) (b : Bool) (u : RVA) → code ≡ 0 → b ≡ leb (pages_to u.0) MAX_PAGES → b ≡ true → u ≡ rva (undef_start f h) → homes ≡ splice homes₀ 0 (homes_to f h h.sections)
+  pub plans_yes : (homes codes codes' slots : List ℕ) (x : Result (Counts × ℕ) Refusal) (b : Bool) (u : RVA) → code ≡ 0 → b ≡ leb (pages_to u.0) MAX_PAGES → b ≡ true → u ≡ rva (undef_start f h) → homes ≡ splice homes₀ 0 (homes_to f h h.sections)
       → (h.sections ≤ MAX_SECTIONS → codes ≡ splice codes₀ 0 (codes_to f h h.symbols)) → PlannedIn f h homes codes l codes' slots x → Blank (header_of f) homes₀ codes₀ slots₀ → Plans f (header_of f) base l homes codes' slots x
   plans_yes homes codes codes' slots x b u z t y start e w p blank =
       let o = with_pages f h (seven f h base code is z) (sym (pages_are f h b u t start) ∙ y) in

@@ -1,9 +1,9 @@
 -- The plan of a load: 12, survey's refusals, then 13 by the lengths of the lent buffers; or the counts (01, "Load").
-use Rattle.std.specs.Prelude.{◌≡◌, Bool, ◌&&◌, List, [], ◌∷◌, ◌++◌, ℕ, ◌*◌, ◌≤◌, leb, eqb, length, replicate}
+use Rattle.refusal.specs.declared.Refusal.{Refusal}
+use Rattle.std.specs.Prelude.{◌≡◌, Bool, ◌&&◌, List, [], ◌∷◌, ◌++◌, ℕ, ◌*◌, ◌≤◌, leb, eqb, length, replicate, Result, Ok, Err}
 use Rattle.limits.specs.Limits.{MAX_SECTIONS, MAX_PAGES, MAX_EXTERNS, EXTERN_ROOM}
 use Rattle.limits.specs.Records.{SECTION_BYTES, SYMBOL_BYTES, EXTERN_BYTES, FIXUP_BYTES, SKIP_BYTES}
-use Rattle.refusal.specs.Refusal.{BASE, STORAGE}
-use Rattle.util.specs.Pick.{pick}
+use Rattle.refusal.specs.Refusal.{Code, PASSES, answer_of, BASE, STORAGE}
 use Rattle.arch.specs.Page.{PAGE_SIZE}
 use Rattle.object.specs.declared.Header.{Header}
 use Rattle.layout.specs.Layout.{undef_start, mapped_pages}
@@ -17,8 +17,6 @@ use Rattle.survey.specs.declared.answer.Counts.{Counts}
 use Rattle.survey.specs.Surveying.{Cleared}
 use Rattle.survey.specs.Survey.{Check, check, first_failed, checks, counts}
 use Rattle.plan.specs.declared.Lengths.{Lengths}
-use Rattle.plan.specs.declared.Plan.{Plan}
-use Rattle.plan.specs.declared.Plan.TheVariants.{Refused, Ready}
 
 -- ---- 13: each buffer has room for what is counted
 -- image, marks and section table
@@ -47,8 +45,8 @@ abbrev pub plan_checks : List ℕ → Header → ℕ → Lengths → List Check
 plan_checks f h base l = check (base_ok base) BASE ∷ (checks f h ++ room_check (counts f h) l)
 
 -- a plan by its code
-unfoldable pub plan_by : ℕ → Counts → ℕ → Plan
-plan_by code c n = pick (eqb code 0) (Ready c n) (Refused code)
+abbrev pub plan_by : Code → Counts → ℕ → Result (Counts × ℕ) Refusal
+plan_by code c n = answer_of code (c, n)
 
 -- arrays of zeros, with the room that the file's records ask for
 pub record Blank (h : Header) (homes codes slots : List ℕ) : Type 0 where
@@ -65,7 +63,7 @@ pub record Found (f : List ℕ) (h : Header) (homes codes slots : List ℕ) : Ty
   pub pages : mapped_pages f h ≤ MAX_PAGES
   pub names : length (externs f h) ≤ MAX_EXTERNS
 
--- what the plan says by the checks' code, and where that is 0 what it has found
-pub record Plans (f : List ℕ) (h : Header) (base : ℕ) (l : Lengths) (homes codes slots : List ℕ) (r : Plan) : Type 0 where
+-- what the plan says by the checks' code, and where nothing is refused what it has found
+pub record Plans (f : List ℕ) (h : Header) (base : ℕ) (l : Lengths) (homes codes slots : List ℕ) (r : Result (Counts × ℕ) Refusal) : Type 0 where
   pub says : r ≡ plan_by (first_failed (plan_checks f h base l)) (counts f h) (length (externs f h))
-  pub found : first_failed (plan_checks f h base l) ≡ 0 → Found f h homes codes slots
+  pub found : first_failed (plan_checks f h base l) ≡ PASSES → Found f h homes codes slots

@@ -1,5 +1,6 @@
 -- What a plan tells: its code; and that each buffer has room for what is counted.
-use Rattle.std.specs.Prelude.{◌≡◌, refl, true, false, ◌&&◌, ℕ, zero, suc, ◌*◌, ◌≤◌, eqb, leb}
+use Rattle.refusal.specs.declared.Refusal.{Refusal}
+use Rattle.std.specs.Prelude.{◌≡◌, refl, true, false, ◌&&◌, ℕ, zero, suc, ◌*◌, ◌≤◌, eqb, leb, Result, Ok, Err}
 use Rattle.std.proofs.Common.{arith, leb-true, ne_eqb}
 use Rattle.limits.specs.Records.{SECTION_BYTES, SYMBOL_BYTES, EXTERN_BYTES, FIXUP_BYTES, SKIP_BYTES}
 use Rattle.util.specs.Pick.{pick, and_left, and_right}
@@ -7,7 +8,6 @@ use Rattle.arch.specs.Page.{PAGE_SIZE}
 use Rattle.marks.specs.Marks.{WORD_BYTES, words_for}
 use Rattle.survey.specs.declared.answer.Counts.{Counts}
 use Rattle.plan.specs.declared.Lengths.{Lengths}
-use Rattle.plan.specs.declared.Plan.TheVariants.{Refused, Ready}
 use Rattle.plan.specs.Plan.{layout_room, lists_room, plan_by}
 
 -- ---- a plan tells its code
@@ -16,15 +16,15 @@ unfolding plan_by pick
 plan_says zero c n a m e = (refl, cc, cc)
 plan_says (suc k) c n a m e =
     let t : eqb (suc k) 0 ≡ false = ne_eqb (suc k) 0 (λ z. absurd (omega arith)) in
-    let z : Ready a m ≡ Refused (suc k) = rw t at e in
+    let z : Ready a m ≡ Err (suc k) = rw t at e in
     absurd (let w : ◌≡◌ {A = ℕ} 0 1 = cc in omega arith)
 
-pub plan_says_no : (code : ℕ) (c : Counts) (n k : ℕ) → Refused k ≡ plan_by code c n → (code ≡ k) × (code ≡ 0 → ⊥)
+pub plan_says_no : (code : ℕ) (c : Counts) (n k : ℕ) → Err k ≡ plan_by code c n → (code ≡ k) × (code ≡ 0 → ⊥)
 unfolding plan_by pick
 plan_says_no zero c n k e = absurd (let w : ◌≡◌ {A = ℕ} 0 1 = cc in omega arith)
 plan_says_no (suc j) c n k e =
     let t : eqb (suc j) 0 ≡ false = ne_eqb (suc j) 0 (λ z. absurd (omega arith)) in
-    let z : Refused k ≡ Refused (suc j) = rw t at e in
+    let z : Err k ≡ Err (suc j) = rw t at e in
     (cc, λ q. absurd (omega arith))
 
 -- ---- there was room for each

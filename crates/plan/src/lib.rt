@@ -71,16 +71,16 @@ fn room_ok(c: Counts, l: Lengths) -> bool
 }
 
 // 13 behind survey's refusals.
-fn with_room(s: Survey, l: Lengths, n: usize) -> Plan
+fn with_room(s: Result<Counts, Refusal>, l: Lengths, n: usize) -> Result<(Counts, usize), Refusal>
     ensures { result ≡ with_room s l n }
 {
     match s {
-        Survey::Refused(k) => Plan::Refused(k),
-        Survey::Accepted(c) => {
+        Err(k) => Err(k),
+        Ok(c) => {
             if room_ok(c, l) {
-                Plan::Ready(c, n)
+                Ok((c, n))
             } else {
-                Plan::Refused(refusal::STORAGE)
+                Err(Refusal::Storage)
             }
         }
     }
@@ -95,13 +95,13 @@ fn plan_names(
     undef: RVA,
     codes: &mut [u16],
     slots: &mut [u32; limits::EXTERN_ROOM],
-) -> Plan
+) -> Result<(Counts, usize), Refusal>
     requires { (mapped_pages f.now h ≤ MAX_PAGES) × (undef ≡ rva (undef_start f.now h)) }
     ensures planned_in { PlannedIn f.now h homes.now codes.old l codes.new slots.new result }
     ensures slots_len { length slots.new ≡ EXTERN_ROOM }
 {
     match externs::collect(f, h, codes, slots) {
-        Names::TooMany => Plan::Refused(refusal::EXTERNS),
+        Names::TooMany => Err(Refusal::Externs),
         Names::Count(n) => with_room(survey::survey_planned(f, h, homes, undef, codes, n), l, n),
     }
 }
@@ -113,7 +113,7 @@ fn first_code(f: &[u8], h: Header, base: VA) -> u64
     if checks::base_ok(base) {
         survey::records_code(f, h)
     } else {
-        refusal::BASE
+        Refusal::Base
     }
 }
 
@@ -126,7 +126,7 @@ pub fn plan_file(
     homes: &mut [u32],
     codes: &mut [u16],
     slots: &mut [u32; limits::EXTERN_ROOM],
-) -> Plan
+) -> Result<(Counts, usize), Refusal>
     ensures plans { Blank (header_of f.now) homes.old codes.old slots.old
         → Plans f.now (header_of f.now) base.0 l homes.new codes.new slots.new result }
     ensures slots_len { length slots.old ≡ EXTERN_ROOM → length slots.new ≡ EXTERN_ROOM }
@@ -139,9 +139,9 @@ pub fn plan_file(
             codes::fill_codes(f, h, codes);
             plan_names(f, h, l, homes, undef, codes, slots)
         } else {
-            Plan::Refused(refusal::PAGES)
+            Err(Refusal::Pages)
         }
     } else {
-        Plan::Refused(code)
+        Err(code)
     }
 }

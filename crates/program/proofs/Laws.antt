@@ -1,4 +1,7 @@
 -- The lines that are written, and what is held meanwhile. Assumes nothing.
+use Rattle.patch.specs.declared.answer.Progress.{Progress}
+use Rattle.refusal.specs.declared.Refusal.{Refusal}
+use Rattle.std.specs.Prelude.{Result, Ok, Err}
 use mathlib.Core.Path.{◌≡◌, sym, ap, ◌∙◌}
 use mathlib.Core.List.{List, []}
 use Prim.Native.Nat.{ℕ, ◌+◌, ◌*◌, ◌%◌, ◌^◌, ◌≤◌, ◌<◌}
@@ -11,9 +14,7 @@ use Rattle.arch.specs.Page.{PAGE_SIZE}
 use Rattle.le.specs.Le.{part, IsBytes}
 use Rattle.marks.specs.Marks.{WORD_BYTES, words_for}
 use Rattle.limits.specs.Records.{SECTION_BYTES, SYMBOL_BYTES, EXTERN_BYTES, FIXUP_BYTES, SKIP_BYTES}
-use Rattle.patch.specs.declared.answer.Patch.{Patch}
 use Rattle.patch.specs.Patch.{Patches}
-use Rattle.loading.specs.declared.answer.Load.{Load}
 use Rattle.loading.specs.Load.{Loads}
 use Rattle.storage.specs.Storage.{storage}
 use Rattle.text.specs.Text.{Puts}
@@ -144,10 +145,10 @@ module _ (f : List ℕ) (c : Counts) where
             };
       }
 
-  module _ (i m s y e x k i' m' s' y' e' x' k' : List ℕ) (r : Load) (ready : Ready f c (storage i m s y e x k)) (loads : Loads f PROGRAM_BASE (storage i m s y e x k) (storage i' m' s' y' e' x' k') r) where
+  module _ (i m s y e x k i' m' s' y' e' x' k' : List ℕ) (r : Result Counts Refusal) (ready : Ready f c (storage i m s y e x k)) (loads : Loads f PROGRAM_BASE (storage i m s y e x k) (storage i' m' s' y' e' x' k') r) where
     pub now_holds : HoldsTables f c s' y' e' x' k'
     now_holds = holds f c ready.few (storage i m s y e x k) (storage i' m' s' y' e' x' k') r ready.sized loads
 
-    pub is_printed : (image : List ℕ) (q : Patch) (n : ℕ) → Patches PROGRAM_BASE m' x' 18446744073709551615 0 i' image q → n ≡ line_total f → Printed f image n
+    pub is_printed : (image : List ℕ) (q : Result Progress Refusal) (n : ℕ) → Patches PROGRAM_BASE m' x' 18446744073709551615 0 i' image q → n ≡ line_total f → Printed f image n
     is_printed image q n p t =
         record { all = t; patched = image_patched f c ready.few (storage i m s y e x k) (storage i' m' s' y' e' x' k') r ready.sized loads image q p }

@@ -1,5 +1,7 @@
 -- What the program holds when it prints: load's tables, and the image with every fixup applied. Its buffers have just the counted sizes.
-use Rattle.std.specs.Prelude.{◌≡◌, Bool, true, false, ℕ, ◌*◌, ◌≤◌, ◌<◌, leb}
+use Rattle.patch.specs.declared.answer.Progress.{Progress}
+use Rattle.refusal.specs.declared.Refusal.{Refusal}
+use Rattle.std.specs.Prelude.{◌≡◌, Bool, true, false, ℕ, ◌*◌, ◌≤◌, ◌<◌, leb, Result, Ok, Err}
 use Rattle.std.proofs.Math.Path.{refl}
 use Rattle.std.proofs.Common.{sym, ap, ◌∙◌, take_all, le-leb}
 use mathlib.Core.List.{List, [], ◌∷◌, ◌++◌}
@@ -22,11 +24,8 @@ use Rattle.survey.specs.declared.answer.Counts.{Counts}
 use Rattle.survey.specs.Survey.{Check, check, first_failed, checks, counts}
 use Rattle.survey.specs.SurveyLaws.{tells_accepted}
 use Rattle.survey.specs.Acceptance.{counts_are, fixups_listed}
-use Rattle.patch.specs.declared.answer.Patch.{Patch}
 use Rattle.patch.specs.Fixes.{fix_count}
 use Rattle.patch.specs.Patch.{portion, patch_code, Patches}
-use Rattle.loading.specs.declared.answer.Load.{Load}
-use Rattle.loading.specs.declared.answer.Load.TheVariants.{Loaded}
 use Rattle.plan.specs.Plan.{layout_room, lists_room}
 use Rattle.storage.specs.Storage.{Storage, stored_by, stored}
 use Rattle.loading.specs.Load.{room_ok, load_checks, load_answer, Loads}
@@ -142,7 +141,7 @@ module _ (f : List ℕ) (c : Counts) (few : Within f c) where
   unfolding after_calls pick
   not_refused = rw at.long (at.refused 18446744073709551615 0 ∙ rw (le-leb 0 (length (fixups_of f)) (omega arith)))
 
-  patched_all : (image marks fixes image' : List ℕ) (q : Patch) → image ≡ image_of f PROGRAM_BASE → marks ≡ marks_of f → fixes ≡ fix_table_of f PROGRAM_BASE
+  patched_all : (image marks fixes image' : List ℕ) (q : Result Progress Refusal) → image ≡ image_of f PROGRAM_BASE → marks ≡ marks_of f → fixes ≡ fix_table_of f PROGRAM_BASE
       → Patches PROGRAM_BASE marks fixes 18446744073709551615 0 image image' q → image' ≡ patched_image f
   unfolding unless_refused
   patched_all image marks fixes image' q a b d p =
@@ -150,7 +149,7 @@ module _ (f : List ℕ) (c : Counts) (few : Within f c) where
       let e = rw (a, b, d, not_refused, z) at p.leaves in
       e
 
-  module _ (s s' : Storage) (r : Load) (sized : Sized c s) (loads : Loads f PROGRAM_BASE s s' r) where
+  module _ (s s' : Storage) (r : Result Counts Refusal) (sized : Sized c s) (loads : Loads f PROGRAM_BASE s s' r) where
     has_room : first_failed (check (room_ok (counts f (header_of f)) s) STORAGE ∷ []) ≡ 0
     unfolding first_failed
     has_room = check_passes (room_ok (counts f (header_of f)) s) STORAGE [] (rw are (room c s sized)) refl
@@ -160,7 +159,7 @@ module _ (f : List ℕ) (c : Counts) (few : Within f c) where
         check_passes (base_ok PROGRAM_BASE) refusal.BASE (checks f (header_of f) ++ (check (room_ok (counts f (header_of f)) s) STORAGE ∷ [])) base_good
         (none_fails (checks f (header_of f)) (check (room_ok (counts f (header_of f)) s) STORAGE ∷ []) passes has_room)
 
-    loaded : Loads f PROGRAM_BASE s s' (Loaded c)
+    loaded : Loads f PROGRAM_BASE s s' (Ok c)
     unfolding load_answer pick
     loaded = record { says = rw (code, are); leaves = loads.leaves }
 
@@ -209,5 +208,5 @@ module _ (f : List ℕ) (c : Counts) (few : Within f c) where
           skip_table_lem = skips_are;
         }
 
-    pub image_patched : (image : List ℕ) (q : Patch) → Patches PROGRAM_BASE s'.marks s'.fixups 18446744073709551615 0 s'.image image q → image ≡ patched_image f
+    pub image_patched : (image : List ℕ) (q : Result Progress Refusal) → Patches PROGRAM_BASE s'.marks s'.fixups 18446744073709551615 0 s'.image image q → image ≡ patched_image f
     image_patched image q p = patched_all s'.image s'.marks s'.fixups image q image_is marks_are fixups_are p

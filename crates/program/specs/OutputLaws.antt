@@ -1,5 +1,6 @@
 -- The lines in the rules' own words, and where each stands: of a loaded section, a listed symbol, an extern name, a fixup, a skip. For every file whose lines are printed.
-use Rattle.std.specs.Prelude.{◌≡◌, refl, true, List, [], ◌∷◌, ◌++◌, ℕ, suc, ◌+◌, ◌%◌, ◌^◌, ◌<◌, length, get_or, drop}
+use Rattle.names.specs.declared.Name.{Name}
+use Rattle.std.specs.Prelude.{◌≡◌, refl, true, List, [], ◌∷◌, ◌++◌, ℕ, suc, ◌+◌, ◌%◌, ◌^◌, ◌<◌, length, get_or, drop, Option, None}
 use Rattle.std.proofs.Common.{sym, ◌∙◌, append-nil, arith, get_or-append-add}
 use Rattle.std.proofs.Math.Path.{ap}
 use Rattle.std.proofs.Math.Bool.{false}
@@ -15,7 +16,6 @@ use Rattle.object.specs.declared.Header.{Header}
 use Rattle.object.specs.Format.{header_of}
 use Rattle.object.specs.Section.{loaded, relocation_count, file_start, file_end, range_length, permissions}
 use Rattle.object.specs.Symbol.{kind}
-use Rattle.names.specs.declared.Name.{Name}
 use Rattle.names.specs.Name.{section_name, symbol_name, name_start, name_length}
 use Rattle.layout.specs.Layout.{start_at, record_of, undef_start}
 use Rattle.homes.specs.Home.{section_home, home_record}
@@ -51,7 +51,7 @@ abbrev pub low : ℕ → ℕ
 low n = n % 2 ^ 64
 
 -- a name is the part of the file that its two words say
-abbrev pub name_at : List ℕ → Name → List ℕ
+abbrev pub name_at : List ℕ → Option Name → List ℕ
 name_at f name = part f (low (name_start name)) (low (name_length name))
 
 -- ---- where a row stands

@@ -1,6 +1,7 @@
 -- What a file has whose lines are printed: no more than the program has room for.
+use Rattle.refusal.specs.declared.Refusal.{Refusal}
 use Rattle.std.specs.Ordering.{Ordering, Less, Equal, Greater}
-use Rattle.std.specs.Prelude.{◌≡◌, refl, Bool, leb}
+use Rattle.std.specs.Prelude.{◌≡◌, refl, Bool, leb, Result, Ok, Err}
 use Rattle.std.proofs.Common.{ap}
 use Rattle.std.proofs.Math.Bool.{true, false}
 use mathlib.Core.List.{List, [], ◌∷◌}
@@ -20,8 +21,6 @@ use Rattle.homes.specs.Listed.{listed}
 use Rattle.codes.specs.Puts as Puts
 use Rattle.externs.specs.Externs.{order_of, by_order, insert_name, extern_step, externs_to, externs}
 use Rattle.survey.specs.declared.answer.Counts.{Counts}
-use Rattle.survey.specs.declared.answer.Survey.{Survey}
-use Rattle.survey.specs.declared.answer.Survey.TheVariants as survey
 use Rattle.survey.specs.Survey.{counts, counts_by, survey_of}
 use Rattle.survey.specs.Acceptance.{counts_are, counts_add_up}
 use Rattle.verdict.specs.declared.answer.Verdict.TheVariants.{TooLarge, Lines}
@@ -31,7 +30,7 @@ use Rattle.verdict.specs.Verdict.{MOST_BYTES, MOST_PAGES, MOST_SECTIONS, MOST_SY
 pub record Within (f : List ℕ) (c : Counts) : Type 0 where
   pub verdict : verdict_of f ≡ Lines c
   pub bytes : length f ≤ MOST_BYTES
-  pub accepted : survey_of f ≡ survey.Accepted c
+  pub accepted : survey_of f ≡ Ok c
   pub pages : c.pages ≤ MOST_PAGES
   pub file_sections : c.file_sections ≤ MOST_SECTIONS
   pub sections : c.sections ≤ MOST_SECTIONS + 1
@@ -72,13 +71,13 @@ module _ (f : List ℕ) (h : Header) (puts : ℕ → Bool) where
       omega arith
 
 -- ---- from the verdict
-lines_by_lem : (s : Survey) (c : Counts) → verdict_by s ≡ Lines c → (s ≡ survey.Accepted c) × (fits c ≡ true)
+lines_by_lem : (s : Result Counts Refusal) (c : Counts) → verdict_by s ≡ Lines c → (s ≡ Ok c) × (fits c ≡ true)
 unfolding verdict_by pick
-lines_by_lem (survey.Refused n) c e = absurd (let w : ◌≡◌ {A = ℕ} 0 1 = cc in omega arith)
-lines_by_lem (survey.Accepted d) c e = by_fit (fits d) refl e
+lines_by_lem (Err n) c e = absurd (let w : ◌≡◌ {A = ℕ} 0 1 = cc in omega arith)
+lines_by_lem (Ok d) c e = by_fit (fits d) refl e
   where
-    by_fit : (b : Bool) → fits d ≡ b → pick b (Lines d) TooLarge ≡ Lines c → (survey.Accepted d ≡ survey.Accepted c) × (fits c ≡ true)
-    by_fit true q x = let z : d ≡ c = cc in (ap survey.Accepted z, rw z at q)
+    by_fit : (b : Bool) → fits d ≡ b → pick b (Lines d) TooLarge ≡ Lines c → (Ok d ≡ Ok c) × (fits c ≡ true)
+    by_fit true q x = let z : d ≡ c = cc in (ap Ok z, rw z at q)
     by_fit false q x = absurd (let w : ◌≡◌ {A = ℕ} 0 1 = cc in omega arith)
 
 short : (f : List ℕ) (c : Counts) → verdict_of f ≡ Lines c → (leb (length f) MOST_BYTES ≡ true) × (verdict_by (survey_of f) ≡ Lines c)
@@ -90,7 +89,7 @@ short f c e = by_size (leb (length f) MOST_BYTES) refl e
     by_size false q x = absurd (let w : ◌≡◌ {A = ℕ} 0 1 = cc in omega arith)
 
 module _ (f : List ℕ) (c : Counts) (e : verdict_of f ≡ Lines c) where
-  accepted : survey_of f ≡ survey.Accepted c
+  accepted : survey_of f ≡ Ok c
   accepted = (lines_by_lem (survey_of f) c (short f c e).1).0
 
   fit : fits c ≡ true

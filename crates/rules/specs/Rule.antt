@@ -1,7 +1,7 @@
 -- What is looked for when a relocation names a symbol, by the symbol's kind and place (01, "Layout, slots and fixups" and refusal 10). Which
 -- names are put among the externs and what a target is are both read off this grid.
 use Rattle.std.specs.Prelude.{ℕ}
-use Rattle.refusal.specs.Refusal.{TARGET}
+use Rattle.refusal.specs.Refusal.{Code, PASSES, TARGET}
 use Rattle.kinds.specs.declared.SymbolKind.{SymbolKind}
 use Rattle.kinds.specs.declared.SymbolKind.TheVariants as kinds
 use Rattle.kinds.specs.declared.Place.{Place}
@@ -10,11 +10,11 @@ use Rattle.rules.specs.declared.Rule.{Rule}
 use Rattle.rules.specs.declared.Rule.TheVariants.{Section, Extern, Slot, Name, Refused}
 
 -- the refusal of each case (01, "Survey"), 0 where there is none
-abbrev pub rule_refusal : Rule → ℕ
-rule_refusal (Section n) = 0
-rule_refusal Extern = 0
-rule_refusal Slot = 0
-rule_refusal Name = 0
+abbrev pub rule_refusal : Rule → Code
+rule_refusal (Section n) = PASSES
+rule_refusal Extern = PASSES
+rule_refusal Slot = PASSES
+rule_refusal Name = PASSES
 rule_refusal Refused = TARGET
 
 -- data and text: in a section, its home; undefined, common or of unknown place, a slot for the name; absolute is refused. Nowhere is a place

@@ -1,5 +1,6 @@
 -- The ways through the tests, as the code asks them.
-use Rattle.std.specs.Prelude.{Option, Some}
+use Rattle.refusal.specs.declared.Refusal.{Refusal}
+use Rattle.std.specs.Prelude.{Option, Some, Result, Ok, Err}
 use mathlib.Core.Path.{◌≡◌}
 use mathlib.Core.Bool.{Bool, true, false, ◌&&◌, ◌||◌}
 use mathlib.Core.List.{List}
@@ -9,8 +10,6 @@ use Rattle.util.specs.Pick.{pick}
 use Rattle.le.specs.Le.{part}
 use Rattle.arch.specs.declared.VA.{VA}
 use Rattle.names.specs.Bytes.{are_same_bytes, UNDEF}
-use Rattle.refusal.specs.declared.Number.{Number}
-use Rattle.refusal.specs.declared.Number.TheVariants.{Value}
 use Rattle.section.specs.declared.Section.{Section}
 use Rattle.section.specs.Section.{file_holds, has_byte, section_has_name, grants, grants_at}
 
@@ -42,5 +41,5 @@ module _ (s : Section) where
   pub grants_by_address : (p : ℕ) (x y : Option VA) {r : Bool} → r ≡ grants_at p s x → x ≡ y → r ≡ grants_at p s y
   grants_by_address p x y q e = rw (← e) q
 
-  pub byte_there : (n : Number) (o : ℕ) {r : Bool} → n ≡ Value o → r ≡ file_holds o s → r ≡ has_byte s n
+  pub byte_there : (n : Result ℕ Refusal) (o : ℕ) {r : Bool} → n ≡ Ok o → r ≡ file_holds o s → r ≡ has_byte s n
   byte_there n o e q = rw (e, q)

@@ -1,13 +1,12 @@
 -- What is asked of one record of the section table (01, "module.rs").
-use Rattle.std.specs.Prelude.{◌≡◌, Bool, false, ◌&&◌, ◌||◌, List, ℕ, ◌/◌, ◌%◌, leb, ltb, eqb, None, Option, Some}
+use Rattle.refusal.specs.declared.Refusal.{Refusal}
+use Rattle.std.specs.Prelude.{◌≡◌, Bool, false, ◌&&◌, ◌||◌, List, ℕ, ◌/◌, ◌%◌, leb, ltb, eqb, None, Option, Some, Result, Ok, Err}
 use Rattle.std.proofs.Math.Bool.{and-false}
 use Rattle.util.specs.Pick.{pick}
 use Rattle.arch.specs.declared.VA.{VA}
 use Rattle.arch.specs.Address.{address_of}
 use Rattle.le.specs.Le.{part}
 use Rattle.names.specs.Bytes.{are_same_bytes, UNDEF}
-use Rattle.refusal.specs.declared.Number.{Number}
-use Rattle.refusal.specs.declared.Number.TheVariants.{Value, Refusal}
 use Rattle.section.specs.declared.Section.{Section}
 use Rattle.section.specs.declared.Probe.{Probe}
 use Rattle.section.specs.declared.OffsetProbe.{OffsetProbe}
@@ -25,9 +24,9 @@ abbrev pub file_holds : ℕ → Section → Bool
 file_holds o s = within s.file_start s.file_end o
 
 -- it has the byte of the file that an answer names
-abbrev pub has_byte : Section → Number → Bool
-has_byte s (Value o) = file_holds o s
-has_byte s (Refusal k) = false
+abbrev pub has_byte : Section → Result ℕ Refusal → Bool
+has_byte s (Ok o) = file_holds o s
+has_byte s (Err k) = false
 
 -- a section's name is that part of the file, and UNDEF's, which has no number there, is the constant
 unfoldable pub section_has_name : List ℕ → List ℕ → Section → Bool

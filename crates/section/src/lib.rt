@@ -16,7 +16,7 @@ ghost use Rattle.section.specs.Section.{
 };
 
 use arch::{RVA, VA};
-use refusal::Number;
+use refusal::Refusal;
 
 // A record of the section table: its range in memory, its range in the file, read 1, write 2 and execute 4 added,
 // where its name stands in the file, and its number there, 0 for UNDEF.
@@ -69,12 +69,12 @@ pub fn file_holds(s: Section, offset: u64) -> bool
 }
 
 // It has the byte of the file that an answer names.
-pub fn has_byte(s: Section, n: Number) -> bool
+pub fn has_byte(s: Section, n: Result<u64, Refusal>) -> bool
     ensures { result ≡ has_byte s n }
 {
     match n {
-        Number::Value(offset) => file_holds(s, offset),
-        Number::Refusal(_) => false,
+        Ok(offset) => file_holds(s, offset),
+        Err(_) => false,
     }
 }
 

@@ -1,4 +1,7 @@
 -- The ways through the code. Assumes nothing.
+use Rattle.refusal.specs.declared.Refusal.{Refusal}
+use Rattle.refusal.specs.Refusal.{Code}
+use Rattle.std.specs.Prelude.{Ok, Err, Result}
 use mathlib.Core.Path.{◌≡◌, refl, sym, ap, subst, ◌∙◌}
 use mathlib.Core.Bool.{Bool, true, false}
 use mathlib.Core.List.{List, [], ◌∷◌, ◌++◌}
@@ -10,63 +13,53 @@ use Rattle.util.specs.Pick.{pick, yes_no}
 use Rattle.arch.specs.Address.{va}
 use Rattle.words.specs.Words.{word_bytes}
 use Rattle.le.specs.Le.{splice}
-use Rattle.refusal.specs.Refusal.{BASE, STORAGE, POSITION, done_of, unless_refused, Leaves}
-use Rattle.refusal.specs.declared.Answer.{Answer}
-use Rattle.refusal.specs.declared.Answer.TheVariants.{Done, Refused}
+use Rattle.refusal.specs.Refusal.{BASE, STORAGE, POSITION, unless_refused, Leaves}
 use Rattle.object.specs.Format.{header_of}
 use Rattle.checks.specs.Checks.{base_ok}
 use Rattle.survey.specs.declared.answer.Counts.{Counts}
-use Rattle.survey.specs.declared.answer.Survey.{Survey}
-use Rattle.survey.specs.declared.answer.Survey.TheVariants as survey
 use Rattle.survey.specs.Survey.{Check, check, first_failed, checks, counts, answer_by, survey_of}
 use Rattle.results.specs.Results.{COUNTS_BYTES, counts_words, PROGRESS_BYTES, progress_words, ROUTINE_BYTES, routine_words}
 use Rattle.nearest.specs.declared.Routine.{Routine}
-use Rattle.nearest.specs.declared.RoutineAnswer.{RoutineAnswer}
-use Rattle.nearest.specs.declared.RoutineAnswer.TheVariants as traced
 use Rattle.module.specs.Routine.{table_sections, routine}
-use Rattle.loading.specs.declared.answer.Load.{Load}
-use Rattle.loading.specs.declared.answer.Load.TheVariants as load
 use Rattle.storage.specs.Storage.{Storage, stored}
 use Rattle.loading.specs.Load.{room_ok, load_checks, load_answer, Loads}
 use Rattle.patch.specs.declared.answer.Progress.{Progress}
-use Rattle.patch.specs.declared.answer.Patch.{Patch}
-use Rattle.patch.specs.declared.answer.Patch.TheVariants as patch
 use Rattle.patch.specs.Fixes.{fix_count}
 use Rattle.patch.specs.Patch.{patch_code, answer_of, Patches}
 use Rattle.station.specs.Station.{code_with, patch_code_with, told_in, Told, ToldBoth, Surveyed, Loaded, Patched, routine_code, nearest_words, Traced, answer_code, as_survey, survey_code, counts_in, CountsTold, untold, unstored_code, unlaid_code, untold_patch_code, patch_answer_code, progress_in, ProgressTold, RoutineTold}
 use Rattle.station.specs.StationLaws.{not_zero, room_same, short_kept, patch_room, patch_short, untold_kept}
 
 -- ---- an answer, told
-module _ (a : Survey) (c : Counts) (out : List ℕ) where
-  pub counts_accepted : (out' : List ℕ) → a ≡ survey.Accepted c → leb COUNTS_BYTES (length out) ≡ true → out' ≡ told_in out (counts_words c) → CountsTold a out out' 0
+module _ (a : Result Counts Refusal) (c : Counts) (out : List ℕ) where
+  pub counts_accepted : (out' : List ℕ) → a ≡ Ok c → leb COUNTS_BYTES (length out) ≡ true → out' ≡ told_in out (counts_words c) → CountsTold a out out' 0
   unfolding survey_code counts_in pick
   counts_accepted out' e t d = rw e (record { says = rw t; result = rw t d })
 
-  pub counts_short : a ≡ survey.Accepted c → leb COUNTS_BYTES (length out) ≡ false → CountsTold a out out STORAGE
+  pub counts_short : a ≡ Ok c → leb COUNTS_BYTES (length out) ≡ false → CountsTold a out out STORAGE
   unfolding survey_code counts_in pick
   counts_short e t = rw e (record { says = rw t; result = rw t })
 
-pub counts_refused : (a : Survey) (n : ℕ) (out : List ℕ) → a ≡ survey.Refused n → CountsTold a out out n
+pub counts_refused : (a : Result Counts Refusal) (n : ℕ) (out : List ℕ) → a ≡ Err n → CountsTold a out out n
 unfolding survey_code counts_in
 counts_refused a n out e = rw e (record { says = refl; result = refl })
 
 pub ruleset counting = (counts_accepted, counts_short, counts_refused)
 
-pub counted_loaded : (a : Load) (c : Counts) → a ≡ load.Loaded c → survey.Accepted c ≡ as_survey a
+pub counted_loaded : (a : Result Counts Refusal) (c : Counts) → a ≡ Ok c → Ok c ≡ as_survey a
 unfolding as_survey
 counted_loaded a c e = rw e
 
-pub counted_refused : (a : Load) (n : ℕ) → a ≡ load.Refused n → survey.Refused n ≡ as_survey a
+pub counted_refused : (a : Result Counts Refusal) (n : ℕ) → a ≡ Err n → Err n ≡ as_survey a
 unfolding as_survey
 counted_refused a n e = rw e
 
 pub ruleset loading = (counted_loaded, counted_refused)
 
-pub untold_accepted : (f : List ℕ) (a : Survey) (c : Counts) → a ≡ survey_of f → a ≡ survey.Accepted c → STORAGE ≡ unstored_code f
+pub untold_accepted : (f : List ℕ) (a : Result Counts Refusal) (c : Counts) → a ≡ survey_of f → a ≡ Ok c → STORAGE ≡ unstored_code f
 unfolding untold
 untold_accepted f a c q e = rw (← q, e)
 
-pub untold_refused : (f : List ℕ) (a : Survey) (n : ℕ) → a ≡ survey_of f → a ≡ survey.Refused n → n ≡ unstored_code f
+pub untold_refused : (f : List ℕ) (a : Result Counts Refusal) (n : ℕ) → a ≡ survey_of f → a ≡ Err n → n ≡ unstored_code f
 unfolding untold
 untold_refused f a n q e = rw (← q, e)
 
@@ -94,29 +87,29 @@ module _ (fixes : List ℕ) (position n : ℕ) where
 
 pub ruleset unpatched = (untold_position, untold_progress)
 
-pub progress_applied : (a : Patch) (p : Progress) (out out' : List ℕ) → a ≡ patch.Applied p → out' ≡ told_in out (progress_words p.position p.done)
+pub progress_applied : (a : Result Progress Refusal) (p : Progress) (out out' : List ℕ) → a ≡ Ok p → out' ≡ told_in out (progress_words p.position p.done)
     → ProgressTold a out out' 0
 unfolding patch_answer_code progress_in
 progress_applied a p out out' e d = rw e (record { says = refl; result = d })
 
-pub progress_refused : (a : Patch) (n : ℕ) (out : List ℕ) → a ≡ patch.Refused n → ProgressTold a out out n
+pub progress_refused : (a : Result Progress Refusal) (n : ℕ) (out : List ℕ) → a ≡ Err n → ProgressTold a out out n
 unfolding patch_answer_code progress_in
 progress_refused a n out e = rw e (record { says = refl; result = refl })
 
 pub ruleset progressing = (progress_applied, progress_refused)
 
-pub answer_done : (a : Answer) → a ≡ Done → 0 ≡ answer_code a
+pub answer_done : (a : Code) → a ≡ (Ok tt) → 0 ≡ answer_code a
 unfolding answer_code
 answer_done a e = rw e
 
-pub answer_refused : (a : Answer) (n : ℕ) → a ≡ Refused n → n ≡ answer_code a
+pub answer_refused : (a : Code) (n : ℕ) → a ≡ Err n → n ≡ answer_code a
 unfolding answer_code
 answer_refused a n e = rw e
 
 pub ruleset answering = (answer_done, answer_refused)
 
 -- ---- the code of an answer that a code gives is that code
-by_refusal : (k : ℕ) (c : Counts) → answer_by (suc k) c ≡ survey.Refused (suc k)
+by_refusal : (k : ℕ) (c : Counts) → answer_by (suc k) c ≡ Err (suc k)
 unfolding answer_by pick
 by_refusal k c = rw (not_zero k)
 
@@ -125,14 +118,14 @@ unfolding pick unless_refused
 pick_kept true new old = refl
 pick_kept false new old = refl
 
-counts_by_lem : (code : ℕ) (c : Counts) (a : Survey) (out out' : List ℕ) (r : ℕ) → a ≡ answer_by code c → CountsTold a out out' r
+counts_by_lem : (code : ℕ) (c : Counts) (a : Result Counts Refusal) (out out' : List ℕ) (r : ℕ) → a ≡ answer_by code c → CountsTold a out out' r
     → Told (code_with COUNTS_BYTES out code) (told_in out (counts_words c)) out out' r
 unfolding answer_by pick survey_code counts_in unless_refused code_with
 counts_by_lem zero c a out out' r e t =
-    let u : CountsTold (survey.Accepted c) out out' r = subst (λ (x : Survey). CountsTold x out out' r) e t in
+    let u : CountsTold (Ok c) out out' r = subst (λ (x : Result Counts Refusal). CountsTold x out out' r) e t in
     record { says = u.says; leaves = u.result ∙ pick_kept (leb COUNTS_BYTES (length out)) _ out }
 counts_by_lem (suc k) c a out out' r e t =
-    let u : CountsTold (survey.Refused (suc k)) out out' r = subst (λ (x : Survey). CountsTold x out out' r) (e ∙ by_refusal k c) t in
+    let u : CountsTold (Err (suc k)) out out' r = subst (λ (x : Result Counts Refusal). CountsTold x out out' r) (e ∙ by_refusal k c) t in
     record { says = u.says; leaves = u.result }
 
 counted_by : (code : ℕ) (c : Counts) → as_survey (load_answer code c) ≡ answer_by code c
@@ -140,18 +133,18 @@ unfolding load_answer answer_by pick as_survey
 counted_by zero c = refl
 counted_by (suc k) c = rw (not_zero k)
 
-progress_by : (code : ℕ) (p : Progress) (a : Patch) (out out' : List ℕ) (r : ℕ) → a ≡ answer_of code p → ProgressTold a out out' r
+progress_by : (code : ℕ) (p : Progress) (a : Result Progress Refusal) (out out' : List ℕ) (r : ℕ) → a ≡ answer_of code p → ProgressTold a out out' r
     → Told code (told_in out (progress_words p.position p.done)) out out' r
 unfolding answer_of patch_answer_code progress_in unless_refused
 progress_by zero p a out out' r e t =
-    let u : ProgressTold (patch.Applied p) out out' r = subst (λ (x : Patch). ProgressTold x out out' r) e t in
+    let u : ProgressTold (Ok p) out out' r = subst (λ (x : Result Progress Refusal). ProgressTold x out out' r) e t in
     record { says = u.says; leaves = u.result }
 progress_by (suc k) p a out out' r e t =
-    let u : ProgressTold (patch.Refused (suc k)) out out' r = subst (λ (x : Patch). ProgressTold x out out' r) e t in
+    let u : ProgressTold (Err (suc k)) out out' r = subst (λ (x : Result Progress Refusal). ProgressTold x out out' r) e t in
     record { says = u.says; leaves = u.result }
 
-answer_by_lem : (code : ℕ) (a : Answer) → a ≡ done_of code → answer_code a ≡ code
-unfolding done_of answer_code
+answer_by_lem : (code : ℕ) (a : Code) → a ≡ code → answer_code a ≡ code
+unfolding answer_code
 answer_by_lem zero a e = rw e
 answer_by_lem (suc k) a e = rw e
 
@@ -189,7 +182,7 @@ both_by {A} {B} code code' e new old x new₂ old₂ x₂ r q t =
     subst (λ (k : ℕ). ToldBoth k new old x new₂ old₂ x₂ r) e (record { says = t.says; leaves = q; leaves₂ = t.leaves })
 
 -- ---- the four operations
-pub survey_told : (f out out' : List ℕ) (a : Survey) (r : ℕ) → a ≡ survey_of f → CountsTold a out out' r → Surveyed f out out' r
+pub survey_told : (f out out' : List ℕ) (a : Result Counts Refusal) (r : ℕ) → a ≡ survey_of f → CountsTold a out out' r → Surveyed f out out' r
 survey_told f out out' a r q t = counts_by_lem (first_failed (checks f (header_of f))) (counts f (header_of f)) a out out' r q t
 
 module _ (f : List ℕ) (base : ℕ) (s : Storage) (out : List ℕ) where
@@ -199,7 +192,7 @@ module _ (f : List ℕ) (base : ℕ) (s : Storage) (out : List ℕ) where
   abbrev new : Storage
   new = stored f (header_of f) base s
 
-  pub load_told : (s' : Storage) (out' : List ℕ) (a : Load) (b : Survey) (r : ℕ) → leb COUNTS_BYTES (length out) ≡ true → Loads f base s s' a → b ≡ as_survey a → CountsTold b out out' r
+  pub load_told : (s' : Storage) (out' : List ℕ) (a : Result Counts Refusal) (b : Result Counts Refusal) (r : ℕ) → leb COUNTS_BYTES (length out) ≡ true → Loads f base s s' a → b ≡ as_survey a → CountsTold b out out' r
       → Loaded f base s s' out out' r
   load_told s' out' a b r e q w t =
       let u : Told (code_with COUNTS_BYTES out code) (told_in out (counts_words (counts f (header_of f)))) out out' r =
@@ -223,7 +216,7 @@ module _ (base : ℕ) (marks fixes : List ℕ) (number position : ℕ) (image ou
   abbrev own : ℕ
   own = patch_code (length image) marks base fixes number position
 
-  pub patch_told : (image' out' : List ℕ) (a : Patch) (r : ℕ) → leb PROGRESS_BYTES (length out) ≡ true
+  pub patch_told : (image' out' : List ℕ) (a : Result Progress Refusal) (r : ℕ) → leb PROGRESS_BYTES (length out) ≡ true
       → Patches base marks fixes number position image image' a → ProgressTold a out out' r → Patched base marks fixes number position image image' out out' r
   patch_told image' out' a r e q t =
       let same : own ≡ patch_code_with (length image) marks base fixes number position out = sym (patch_room (length image) marks base fixes number position out e) in
@@ -234,7 +227,7 @@ module _ (base : ℕ) (marks fixes : List ℕ) (number position : ℕ) (image ou
       let same : untold_patch_code fixes position ≡ patch_code_with (length image) marks base fixes number position out = sym (patch_short (length image) marks base fixes number position out e) in
       both_by (untold_patch_code fixes position) _ same _ image image _ out out r (untold_kept fixes position _ image) (record { says = q; leaves = untold_kept fixes position _ out })
 
-pub read_told : (code : ℕ) (out new out' : List ℕ) (a : Answer) (r : ℕ) → Leaves code out new out' a → r ≡ answer_code a → Told code new out out' r
+pub read_told : (code : ℕ) (out new out' : List ℕ) (a : Code) (r : ℕ) → Leaves code out new out' a → r ≡ answer_code a → Told code new out out' r
 read_told code out new out' a r q e = record { says = e ∙ answer_by_lem code a q.says; leaves = q.leaves }
 
 -- ---- the routine of an address
@@ -242,24 +235,24 @@ none_told : (out : List ℕ) → told_in out [] ≡ out
 unfolding word_bytes splice
 none_told out = refl
 
-pub routine_found : (a : RoutineAnswer) (p : Routine) (out out' : List ℕ) → a ≡ traced.Found p → out' ≡ told_in out (routine_words p.symbol p.distance) → RoutineTold a out out' 0
+pub routine_found : (a : Result Routine Refusal) (p : Routine) (out out' : List ℕ) → a ≡ Ok p → out' ≡ told_in out (routine_words p.symbol p.distance) → RoutineTold a out out' 0
 unfolding routine_code nearest_words
 routine_found a p out out' e d = rw e (record { says = refl; result = d })
 
-pub routine_refused : (a : RoutineAnswer) (n : ℕ) (out : List ℕ) → a ≡ traced.Refused n → RoutineTold a out out n
+pub routine_refused : (a : Result Routine Refusal) (n : ℕ) (out : List ℕ) → a ≡ Err n → RoutineTold a out out n
 unfolding routine_code nearest_words
 routine_refused a n out e = rw e (record { says = refl; result = sym (none_told out) })
 
 pub ruleset tracing = (routine_found, routine_refused)
 
-routine_by : (a : RoutineAnswer) (out out' : List ℕ) (r : ℕ) → RoutineTold a out out' r → Told (routine_code a) (told_in out (nearest_words a)) out out' r
+routine_by : (a : Result Routine Refusal) (out out' : List ℕ) (r : ℕ) → RoutineTold a out out' r → Told (routine_code a) (told_in out (nearest_words a)) out out' r
 unfolding routine_code nearest_words unless_refused
-routine_by (traced.Found p) out out' r t = record { says = t.says; leaves = t.result }
-routine_by (traced.Refused zero) out out' r t = record { says = t.says; leaves = t.result }
-routine_by (traced.Refused (suc k)) out out' r t = record { says = t.says; leaves = t.result ∙ none_told out }
+routine_by (Ok p) out out' r t = record { says = t.says; leaves = t.result }
+routine_by (Err zero) out out' r t = record { says = t.says; leaves = t.result }
+routine_by (Err (suc k)) out out' r t = record { says = t.says; leaves = t.result ∙ none_told out }
 
 module _ (sections symbols : List ℕ) (address : ℕ) (out : List ℕ) where
-  pub routine_told : (a : RoutineAnswer) (out' : List ℕ) (r : ℕ) → leb ROUTINE_BYTES (length out) ≡ true → a ≡ routine (table_sections sections) symbols (va address) → RoutineTold a out out' r
+  pub routine_told : (a : Result Routine Refusal) (out' : List ℕ) (r : ℕ) → leb ROUTINE_BYTES (length out) ≡ true → a ≡ routine (table_sections sections) symbols (va address) → RoutineTold a out out' r
       → Traced sections symbols address out out' r
   unfolding pick
   routine_told a out' r e q t = rw (e, ← q) (routine_by a out out' r t)

@@ -1,5 +1,7 @@
 -- What the C functions do is what the operations do, also on refusal: what is proved of load and patch (demands 1 and 3) holds of them.
-use Rattle.std.specs.Prelude.{◌≡◌, refl, Bool, true, false, List, ℕ, zero, suc, leb, eqb, length}
+use Rattle.survey.specs.declared.answer.Counts.{Counts}
+use Rattle.refusal.specs.declared.Refusal.{Refusal}
+use Rattle.std.specs.Prelude.{◌≡◌, refl, Bool, true, false, List, ℕ, zero, suc, leb, eqb, length, Result, Ok, Err}
 use Rattle.std.proofs.Math.Path.{sym, ap}
 use Rattle.std.proofs.Common.{◌∙◌, ⊎_elim, arith, ne_eqb}
 use Rattle.util.specs.Pick.{pick, yes_no}
@@ -7,7 +9,6 @@ use Rattle.refusal.specs.Refusal.{STORAGE, POSITION, unless_refused}
 use Rattle.object.specs.Format.{header_of}
 use Rattle.survey.specs.Survey.{first_failed, counts}
 use Rattle.results.specs.Results.{COUNTS_BYTES, PROGRESS_BYTES}
-use Rattle.loading.specs.declared.answer.Load.TheVariants as load
 use Rattle.storage.specs.Storage.{Storage, stored}
 use Rattle.loading.specs.Load.{load_checks, load_answer, Loads}
 use Rattle.patch.specs.Fixes.{fix_count, fixed_from}
@@ -79,7 +80,7 @@ module _ (f : List ℕ) (base : ℕ) (s s' : Storage) (out out' : List ℕ) wher
       }
 
   -- an answer of 0 is load's acceptance
-  pub c_load_done : Loaded f base s s' out out' 0 → Loads f base s s' (load.Loaded (counts f (header_of f)))
+  pub c_load_done : Loaded f base s s' out out' 0 → Loads f base s s' (Ok (counts f (header_of f)))
   unfolding load_answer pick unless_refused
   c_load_done l =
       let none : code ≡ 0 = done_own COUNTS_BYTES out code (sym l.says) in

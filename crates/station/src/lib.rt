@@ -25,7 +25,7 @@ use arch::VA;
 use load::Load;
 use nearest::RoutineAnswer;
 use patch::Patch;
-use refusal::Answer;
+use refusal::Refusal;
 use survey::Survey;
 
 // The ten words of survey's and load's counts.
@@ -37,63 +37,63 @@ pub const PROGRESS_BYTES: usize = 16;
 // The two words of the routine that an address is in: the symbol's number in the list, and the distance.
 pub const ROUTINE_BYTES: usize = 16;
 
-fn tell_counts(answer: Survey, out: &mut [u8]) -> u64
+fn tell_counts(answer: Result<Counts, Refusal>, out: &mut [u8]) -> u64
     ensures { CountsTold answer out.old out.new result }
 {
     match answer {
-        Survey::Accepted(c) => {
+        Ok(c) => {
             let room = COUNTS_BYTES <= out.len();
             if room {
                 results::write_counts(c, out);
                 0
             } else {
-                refusal::STORAGE
+                Refusal::Storage
             }
         }
-        Survey::Refused(n) => n,
+        Err(n) => n,
     }
 }
 
 // Load's counts are told as survey's.
-fn as_survey(answer: Load) -> Survey
+fn as_survey(answer: Result<Counts, Refusal>) -> Result<Counts, Refusal>
     ensures { result ≡ as_survey answer }
 {
     match answer {
-        Load::Loaded(c) => Survey::Accepted(c),
-        Load::Refused(n) => Survey::Refused(n),
+        Ok(c) => Ok(c),
+        Err(n) => Err(n),
     }
 }
 
-fn tell_progress(answer: Patch, out: &mut [u8]) -> u64
+fn tell_progress(answer: Result<Progress, Refusal>, out: &mut [u8]) -> u64
     ensures { ProgressTold answer out.old out.new result }
 {
     match answer {
-        Patch::Applied(p) => {
+        Ok(p) => {
             results::write_progress(p.position, p.done, out);
             0
         }
-        Patch::Refused(n) => n,
+        Err(n) => n,
     }
 }
 
-fn tell_routine(answer: RoutineAnswer, out: &mut [u8]) -> u64
+fn tell_routine(answer: Result<Routine, Refusal>, out: &mut [u8]) -> u64
     ensures { RoutineTold answer out.old out.new result }
 {
     match answer {
-        RoutineAnswer::Found(a) => {
+        Ok(a) => {
             results::write_routine(a.symbol, a.distance, out);
             0
         }
-        RoutineAnswer::Refused(n) => n,
+        RoutineErr(n) => n,
     }
 }
 
-fn answer_code(answer: Answer) -> u64
+fn answer_code(answer: Result<(), Refusal>) -> u64
     ensures { result ≡ answer_code answer }
 {
     match answer {
-        Answer::Done => 0,
-        Answer::Refused(n) => n,
+        Ok(()) => 0,
+        Err(n) => n,
     }
 }
 
@@ -109,8 +109,8 @@ fn unstored_code(file: &[u8]) -> u64
     ensures { result ≡ unstored_code file.now }
 {
     match survey::survey(file) {
-        Survey::Accepted(_) => refusal::STORAGE,
-        Survey::Refused(code) => code,
+        Ok(_) => Refusal::Storage,
+        Err(code) => code,
     }
 }
 
@@ -122,7 +122,7 @@ fn unlaid_code(file: &[u8], base: VA) -> u64
     if ok {
         unstored_code(file)
     } else {
-        refusal::BASE
+        Refusal::Base
     }
 }
 
@@ -132,9 +132,9 @@ fn untold_patch_code(fixups: &[u8], position: u64) -> u64
 {
     let ok = position <= patch::fix_count(fixups);
     if ok {
-        refusal::STORAGE
+        Refusal::Storage
     } else {
-        refusal::POSITION
+        Refusal::Position
     }
 }
 
@@ -213,6 +213,6 @@ pub fn nelgrauf_routine(sections: &[u8], symbols: &[u8], address: u64, nearest: 
     if room {
         tell_routine(module::routine_in(sections, symbols, VA(address)), nearest)
     } else {
-        refusal::STORAGE
+        Refusal::Storage
     }
 }

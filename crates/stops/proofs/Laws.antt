@@ -1,4 +1,6 @@
 -- The ways through the code. Assumes nothing.
+use Rattle.names.specs.declared.Name.{Name}
+use Rattle.names.specs.Name.{good_name}
 use Rattle.std.specs.Prelude.{None, Option, Some}
 use mathlib.Core.Path.{◌≡◌, refl, sym, ap, ◌∙◌}
 use mathlib.Core.Bool.{Bool, true, false, ◌&&◌, ◌||◌, not}
@@ -16,8 +18,6 @@ use Rattle.chars.specs.Chars.{walk, stop}
 use Rattle.chars.specs.WalkLaws.{walk_least}
 use Rattle.object.specs.declared.Header.{Header}
 use Rattle.object.specs.Format.{LONG_OFFSET_AT, LENGTH_SIZE, string_table, string_length, section_header_at, symbol_record_at}
-use Rattle.names.specs.declared.Name.{Name}
-use Rattle.names.specs.declared.Name.TheVariants.{Good, Bad}
 use Rattle.names.specs.Name.{SLASH, slash_offset, is_good}
 use Rattle.stops.specs.Stops.{strings, skip_to, skip, TAILS, BLOCK, blocks_of, block_stop, stop_words, stop_count, stops_of, stop_behind, stop_by}
 use Rattle.stops.specs.StopLaws.{skip_least, past_tail, Serves, serves_none, serves_next, stop_low}
@@ -153,18 +153,18 @@ module _ (t : List ℕ) (n o s : ℕ) (section : Bool) (r : Bool) (says : r ≡ 
   end_fits k a b = let l = ltb-true s n (and_left (ltb s n) _ within) in let q = end_behind in omega arith
 
 module _ (f : List ℕ) (h : Header) (stops t : List ℕ) (n o s : ℕ) (section r : Bool) (table : t ≡ strings f h) (said : n ≡ string_length f h) (ends : s ≡ stop_by section t stops o) (says : r ≡ may_end t n section o s) where
-  pub long_good : (k : ℕ) → r ≡ true → k ≡ string_table h → Good (k + o) (s - o) ≡ long_by f h stops section o
+  pub long_good : (k : ℕ) → r ≡ true → k ≡ string_table h → good_name (k + o) (s - o) ≡ long_by f h stops section o
   unfolding pick
   long_good k y e = rw (← table, ← said, ← ends, ← says, y, e)
 
-  pub long_bad : r ≡ false → Bad ≡ long_by f h stops section o
+  pub long_bad : r ≡ false → None ≡ long_by f h stops section o
   unfolding pick
   long_bad y = rw (← table, ← said, ← ends, ← says, y)
 
 pub ruleset long_ways = (end_behind, end_fits, long_good, long_bad)
 
 -- a test for a name is good where it holds
-good_by_lem : (b : Bool) (at n : ℕ) → is_good (pick b (Good at n) Bad) ≡ b
+good_by_lem : (b : Bool) (at n : ℕ) → is_good (pick b (good_name at n) None) ≡ b
 unfolding pick
 good_by_lem true at n = refl
 good_by_lem false at n = refl
@@ -178,11 +178,11 @@ module _ (f t : List ℕ) (at s : ℕ) (section r : Bool) (table : t ≡ field f
   field_stop : s ≡ stop section (field f at) 0
   field_stop = rw (← table) is
 
-  pub field_good : r ≡ true → Good at s ≡ field_by f section at
+  pub field_good : r ≡ true → good_name at s ≡ field_by f section at
   unfolding pick
   field_good y = rw (← field_stop, ← table, ← says, y)
 
-  pub field_bad : r ≡ false → Bad ≡ field_by f section at
+  pub field_bad : r ≡ false → None ≡ field_by f section at
   unfolding pick
   field_bad y = rw (← field_stop, ← table, ← says, y)
 
@@ -192,7 +192,7 @@ module _ (f t : List ℕ) (at s : ℕ) (section r : Bool) (table : t ≡ field f
 pub ruleset field_ways = (field_good, field_bad)
 
 -- ---- the name of a symbol and of a section
-module _ (f : List ℕ) (h : Header) (stops : List ℕ) {r : Name} where
+module _ (f : List ℕ) (h : Header) (stops : List ℕ) {r : Option Name} where
   pub symbol_long : (j at x o : ℕ) → at ≡ symbol_record_at h j → x ≡ get 4 f at → eqb x 0 ≡ true → o ≡ get 4 f (at + LONG_OFFSET_AT) → r ≡ long_by f h stops false o → r ≡ symbol_name_by f h stops j
   unfolding symbol_name_by pick
   symbol_long j at x o a e z q p = rw (← a, ← e, z, ← q) p
@@ -213,7 +213,7 @@ module _ (f : List ℕ) (h : Header) (stops : List ℕ) {r : Name} where
   unfolding section_name_by pick
   section_short i at b a e z p = let y : eqb (get_or f (section_header_at h i) 0) SLASH ≡ false = rw (← a, ← e) z in rw y (rw a at p)
 
-pub slash_bad : (f : List ℕ) (h : Header) (stops : List ℕ) (d : Option ℕ) → d ≡ None → Bad ≡ slash_name_by f h stops d
+pub slash_bad : (f : List ℕ) (h : Header) (stops : List ℕ) (d : Option ℕ) → d ≡ None → None ≡ slash_name_by f h stops d
 unfolding slash_name_by
 slash_bad f h stops d e = rw e
 

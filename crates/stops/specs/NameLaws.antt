@@ -1,4 +1,6 @@
 -- A name by the noted stops is the one that the rule says. Assumes nothing.
+use Rattle.names.specs.declared.Name.{Name}
+use Rattle.names.specs.Name.{good_name}
 use Rattle.std.specs.Prelude.{◌≡◌, Bool, ◌&&◌, ◌||◌, not, List, ℕ, ◌+◌, ◌-◌, ◌≤◌, ◌<◌, length, get_or, replicate, leb, None, Option, Some}
 use Rattle.std.proofs.Math.Path.{refl, sym, ap}
 use Rattle.std.proofs.Common.{◌∙◌, inl, inr, arith, drop-drop}
@@ -17,7 +19,6 @@ use Rattle.chars.specs.WalkLaws.{drop_front, walk_least, stop_part}
 use Rattle.chars.specs.GoodLaws.{section_walk, symbol_walk}
 use Rattle.object.specs.declared.Header.{Header}
 use Rattle.object.specs.Format.{NAME_SIZE, LONG_OFFSET_AT, LENGTH_SIZE, string_table, string_length, section_header_at, symbol_record_at}
-use Rattle.names.specs.declared.Name.TheVariants.{Good, Bad}
 use Rattle.names.specs.Bytes.{run}
 use Rattle.names.specs.Name.{short_run, long_run, symbol_run, section_run, SLASH, slash_offset, slash_by, checked, section_name, symbol_name}
 use Rattle.names.specs.NameLaws.{run_most, run_zero, run_before, run_long}
@@ -27,14 +28,14 @@ use Rattle.stops.specs.StopLaws.{stop_noted}
 use Rattle.stops.specs.Names.{may_end, field, field_ends, field_by, long_to, long_by, slash_name_by, symbol_name_by, section_name_by}
 
 -- ---- what is left of a name by its rule
-checked_run : (good : List ℕ → Bool) (f : List ℕ) (c : Bool) (at n : ℕ) → checked good f (pick c (Good at n) Bad) ≡ pick (c && good (part f at n)) (Good at n) Bad
+checked_run : (good : List ℕ → Bool) (f : List ℕ) (c : Bool) (at n : ℕ) → checked good f (pick c (good_name at n) None) ≡ pick (c && good (part f at n)) (good_name at n) None
 unfolding pick checked
 checked_run good f true at n = refl
 checked_run good f false at n = refl
 
-same_pick : (a b : Bool) (at m n : ℕ) → a ≡ b → (a ≡ true → n ≡ m) → pick a (Good at m) Bad ≡ pick b (Good at n) Bad
+same_pick : (a b : Bool) (at m n : ℕ) → a ≡ b → (a ≡ true → n ≡ m) → pick a (good_name at m) None ≡ pick b (good_name at n) None
 unfolding pick
-same_pick true b at m n e q = rw (← e) (ap (Good at) (sym (q refl)))
+same_pick true b at m n e q = rw (← e) (ap (good_name at) (sym (q refl)))
 same_pick false b at m n e q = rw (← e)
 
 may_be_empty : (a b : Bool) → (a || not b) ≡ true → b ≡ true → a ≡ true
@@ -243,7 +244,7 @@ module _ (section : Bool) (f : List ℕ) (at : ℕ) where
       (le_or_lt field_stop 0))
       z)
 
-  field_is : field_by f section at ≡ pick (good_by section field_name) (Good at field_run) Bad
+  field_is : field_by f section at ≡ pick (good_by section field_name) (good_name at field_run) None
   unfolding field_ends
   field_is =
       same_pick ((ltb 0 field_stop || section) && eqb (get_or (field f at) field_stop 0) 0) (good_by section field_name) at field_stop field_run field_good
@@ -269,12 +270,12 @@ module _ (f : List ℕ) (at : ℕ) where
       rw n
 
   run_checked : (b : Bool) → eqb (get_or f at 0) 0 ≡ b
-      → checked good_symbol_name f (pick b Bad (short_run f at)) ≡ pick (good_symbol_name (part f at (run f at NAME_SIZE))) (Good at (run f at NAME_SIZE)) Bad
+      → checked good_symbol_name f (pick b None (short_run f at)) ≡ pick (good_symbol_name (part f at (run f at NAME_SIZE))) (good_name at (run f at NAME_SIZE)) None
   unfolding checked pick
   run_checked true e = rw (empty_bad e)
   run_checked false e = refl
 
-  symbol_field : field_by f false at ≡ checked good_symbol_name f (pick (eqb (get_or f at 0) 0) Bad (short_run f at))
+  symbol_field : field_by f false at ≡ checked good_symbol_name f (pick (eqb (get_or f at 0) 0) None (short_run f at))
   unfolding good_by
   symbol_field = field_is false f at ∙ sym (run_checked (eqb (get_or f at 0) 0) refl)
 

@@ -3,12 +3,12 @@
 
 ghost use Rattle.std.specs.Prelude.{◌≡◌};
 ghost use Rattle.util.specs.Pick.{pick};
-ghost use Rattle.refusal.specs.Refusal.{STORAGE, NOT_MAPPED};
+ghost use Rattle.refusal.specs.declared.Refusal.TheVariants.{Storage, NotMapped};
 ghost use Rattle.pagemap.specs.Pages.{storage_ok};
 ghost use Rattle.strings.specs.Ascii.{is_text, text_length, ascii_of, ascii_at, ascii_from, text_of};
 
 use arch::{RVA, VA};
-use refusal::{NOT_MAPPED, STORAGE};
+use refusal::Refusal;
 
 // Where a string starts and how long it is; or it is shorter than was asked for; or refused.
 #[derive(Clone, Copy)]
@@ -60,18 +60,18 @@ pub fn read_ascii(image: &[u8], marks: &[u8], offset: RVA, minimum_length: u64) 
             Ascii::TooShort
         }
     } else {
-        Ascii::Refused(STORAGE)
+        Ascii::Refused(Refusal::Storage)
     }
 }
 
 // The refusal where there is no offset: 13 before 15.
 fn unmapped(size: u64, marks: u64) -> u64
-    ensures { result ≡ pick (storage_ok size marks) NOT_MAPPED STORAGE }
+    ensures { result ≡ pick (storage_ok size marks) NotMapped Storage }
 {
     if pagemap::storage_ok(size, marks) {
-        NOT_MAPPED
+        Refusal::NotMapped
     } else {
-        STORAGE
+        Refusal::Storage
     }
 }
 

@@ -1,5 +1,7 @@
 -- The ways through the code. Assumes nothing.
-use Rattle.std.specs.Prelude.{Option}
+use Rattle.refusal.specs.declared.Refusal.TheVariants.{Externs, Pages, Place, Target}
+use Rattle.refusal.specs.declared.Refusal.{Refusal}
+use Rattle.std.specs.Prelude.{Option, Result, Ok, Err, Some, None}
 use mathlib.Core.Path.{◌≡◌, refl, sym, ap, ◌∙◌}
 use mathlib.Core.Bool.{Bool, true, false, not, ◌&&◌}
 use mathlib.Core.List.{List, [], ◌∷◌, ◌++◌}
@@ -10,7 +12,7 @@ use lib.Dec.{eqb, leb}
 use lib.ListN.{length}
 use borrow.Author.Tests.{not-true, not-false}
 use Rattle.limits.specs.Limits.{MAX_SECTIONS, FEW_SECTIONS, FEW_SYMBOLS, MAX_PAGES, MAX_EXTERNS}
-use Rattle.refusal.specs.Refusal.{PAGES, EXTERNS, TARGET, PLACE}
+use Rattle.refusal.specs.Refusal.{PAGES}
 use Rattle.util.specs.Pick.{pick, yes_no, flag_yes, flag_no}
 use Rattle.le.specs.Le.{splice}
 use Rattle.codes.specs.Code.{codes_to}
@@ -27,8 +29,6 @@ use Rattle.object.specs.Section.{relocation_count}
 use Rattle.layout.specs.Layout.{undef_start, pages_to, mapped_pages, table_records}
 use Rattle.homes.specs.Home.{homes_to, home_in}
 use Rattle.homes.specs.Listed.{listed_total}
-use Rattle.externs.specs.declared.Names.{Names}
-use Rattle.externs.specs.declared.Names.TheVariants.{TooMany, Count}
 use Rattle.externs.specs.Externs.{externs, names_of}
 use Rattle.externs.specs.Slotted.{slotted, CodesAfter}
 use Rattle.targets.specs.declared.Target.{Target}
@@ -39,8 +39,6 @@ use Rattle.fixups.specs.Tally.{tally_of}
 use Rattle.fixups.specs.TallyLaws.{all_counted}
 use Rattle.fixups.specs.declared.Tally.{Tally}
 use Rattle.survey.specs.declared.answer.Counts.{Counts}
-use Rattle.survey.specs.declared.answer.Survey.{Survey}
-use Rattle.survey.specs.declared.answer.Survey.TheVariants.{Accepted, Refused}
 use Rattle.survey.specs.Survey.{Check, check, first_failed, early_checks, page_checks, target_checks, extern_checks, tally_by, counts_by, tally, checks, counts, answer_by, survey_of}
 use Rattle.survey.specs.SurveyLaws.{Early, Ordered, failed_first, early, early_rest, with_pages, records_rest, says_refused, sections_fit, fits_is}
 use Rattle.survey.specs.Surveying.{behind_pages, targets_answer, planned_by, names_in, answer_in, few_records, home_words, code_words, Cleared}
@@ -103,15 +101,15 @@ tally_adds f h pages o r e = rw e (all_counted o (relocation_count f h) h.sectio
 
 -- ---- behind refusal 8, by UNDEF's start
 module _ (f : List ℕ) (h : Header) (b : Bool) (u : RVA) (q : b ≡ leb (pages_to u.0) MAX_PAGES) where
-  behind_yes : (x s : Survey) → b ≡ true → u ≡ rva (undef_start f h) → x ≡ s → x ≡ behind_pages f h s
+  behind_yes : (x s : Result Counts Refusal) → b ≡ true → u ≡ rva (undef_start f h) → x ≡ s → x ≡ behind_pages f h s
   unfolding pick
   behind_yes x s e start d = rw (← pages_are f h b u q start, e) d
 
-  pub behind_no : (s : Survey) → b ≡ false → u ≡ rva (undef_start f h) → Refused PAGES ≡ behind_pages f h s
+  pub behind_no : (s : Result Counts Refusal) → b ≡ false → u ≡ rva (undef_start f h) → Err Pages ≡ behind_pages f h s
   unfolding pick
   behind_no s e start = rw (← pages_are f h b u q start, e)
 
-  pub planned_yes : (home : ℕ → Option RVA) (target : ℕ → Target) (n : ℕ) (x : Survey) → b ≡ true
+  pub planned_yes : (home : ℕ → Option RVA) (target : ℕ → Target) (n : ℕ) (x : Result Counts Refusal) → b ≡ true
       → (mapped_pages f h ≤ MAX_PAGES → u ≡ rva (undef_start f h) → x ≡ targets_answer f h home target n) → u ≡ rva (undef_start f h) → x ≡ planned_by f h home target n
   planned_yes home target n x e d start = behind_yes x (targets_answer f h home target n) e start (d (pages_few f h b u q start e) start)
 
@@ -119,41 +117,41 @@ pub ruleset planned = (planned_yes, behind_no)
 
 -- ---- the answer
 module _ (t : Tally) (c : Counts) where
-  pub verdict_yes : eqb t.refused 0 ≡ true → eqb t.outside 0 ≡ true → Accepted c ≡ answer_by (first_failed (target_checks t)) c
+  pub verdict_yes : eqb t.refused 0 ≡ true → eqb t.outside 0 ≡ true → Ok c ≡ answer_by (first_failed (target_checks t)) c
   unfolding answer_by first_failed pick
   verdict_yes e d = rw (e, d)
 
-  pub verdict_outside : eqb t.refused 0 ≡ true → eqb t.outside 0 ≡ false → Refused PLACE ≡ answer_by (first_failed (target_checks t)) c
+  pub verdict_outside : eqb t.refused 0 ≡ true → eqb t.outside 0 ≡ false → Err Place ≡ answer_by (first_failed (target_checks t)) c
   unfolding answer_by first_failed pick
   verdict_outside e d = rw (e, d)
 
-  pub verdict_refused : eqb t.refused 0 ≡ false → Refused TARGET ≡ answer_by (first_failed (target_checks t)) c
+  pub verdict_refused : eqb t.refused 0 ≡ false → Err Target ≡ answer_by (first_failed (target_checks t)) c
   unfolding answer_by first_failed pick
   verdict_refused e = rw e
 
 pub ruleset verdicts = (verdict_yes, verdict_outside, verdict_refused)
 
 -- ---- the extern names
-names_over : (ys : List ℕ) → TooMany ≡ names_of ys → leb (length ys) MAX_EXTERNS ≡ false
+names_over : (ys : List ℕ) → None ≡ names_of ys → leb (length ys) MAX_EXTERNS ≡ false
 unfolding pick
-names_over ys e = ⊎_elim (λ t. absurd (let z : TooMany ≡ Count (length ys) = rw t at e in let w : ◌≡◌ {A = ℕ} 0 1 = cc in omega arith)) (λ t. t) (yes_no (leb (length ys) MAX_EXTERNS))
+names_over ys e = ⊎_elim (λ t. absurd (let z : None ≡ Some (length ys) = rw t at e in let w : ◌≡◌ {A = ℕ} 0 1 = cc in omega arith)) (λ t. t) (yes_no (leb (length ys) MAX_EXTERNS))
 
 pub record Counted (ys : List ℕ) (n : ℕ) : Type 0 where
   pub few : leb (length ys) MAX_EXTERNS ≡ true
   pub all : n ≡ length ys
 
-names_fit : (ys : List ℕ) (n : ℕ) → Count n ≡ names_of ys → Counted ys n
+names_fit : (ys : List ℕ) (n : ℕ) → Some n ≡ names_of ys → Counted ys n
 unfolding pick
 names_fit ys n e =
-    ⊎_elim (λ t. record { few = t; all = let z : Count n ≡ Count (length ys) = rw t at e in cc })
-    (λ t. absurd (let z : Count n ≡ TooMany = rw t at e in let w : ◌≡◌ {A = ℕ} 0 1 = cc in omega arith)) (yes_no (leb (length ys) MAX_EXTERNS))
+    ⊎_elim (λ t. record { few = t; all = let z : Some n ≡ Some (length ys) = rw t at e in cc })
+    (λ t. absurd (let z : Some n ≡ None = rw t at e in let w : ◌≡◌ {A = ℕ} 0 1 = cc in omega arith)) (yes_no (leb (length ys) MAX_EXTERNS))
 
-module _ (f : List ℕ) (h : Header) (homes codes : List ℕ) (r : Names) (is : r ≡ names_of (names_in f h codes)) where
-  pub externs_over : r ≡ TooMany → Refused EXTERNS ≡ answer_in f h homes codes
+module _ (f : List ℕ) (h : Header) (homes codes : List ℕ) (r : Option ℕ) (is : r ≡ names_of (names_in f h codes)) where
+  pub externs_over : r ≡ None → Err Externs ≡ answer_in f h homes codes
   unfolding answer_by first_failed pick
   externs_over e = rw (names_over (names_in f h codes) (sym e ∙ is))
 
-  pub externs_fit : (n : ℕ) (codes' : List ℕ) (u : RVA) (x : Survey) → r ≡ Count n → CodesAfter f h codes (names_in f h codes) codes'
+  pub externs_fit : (n : ℕ) (codes' : List ℕ) (u : RVA) (x : Result Counts Refusal) → r ≡ Some n → CodesAfter f h codes (names_in f h codes) codes'
       → mapped_pages f h ≤ MAX_PAGES → u ≡ rva (undef_start f h)
       → (mapped_pages f h ≤ MAX_PAGES → u ≡ rva (undef_start f h) → x ≡ targets_answer f h (home_in homes) (target_in homes (undef_start f h) codes') n)
       → x ≡ answer_in f h homes codes
@@ -167,7 +165,7 @@ pub ruleset extern_ways = (externs_over, externs_fit)
 
 -- ---- the arrays
 module _ (f : List ℕ) (h : Header) (homes₀ codes₀ homes codes : List ℕ) (few : h.sections ≤ MAX_SECTIONS) (zeros : Cleared h homes₀ codes₀) where
-  pub records_by : (b : Bool) (u : RVA) (x : Survey) → homes ≡ splice homes₀ 0 (homes_to f h h.sections) → (h.sections ≤ MAX_SECTIONS → codes ≡ splice codes₀ 0 (codes_to f h h.symbols))
+  pub records_by : (b : Bool) (u : RVA) (x : Result Counts Refusal) → homes ≡ splice homes₀ 0 (homes_to f h h.sections) → (h.sections ≤ MAX_SECTIONS → codes ≡ splice codes₀ 0 (codes_to f h h.symbols))
       → b ≡ leb (pages_to u.0) MAX_PAGES → b ≡ true → u ≡ rva (undef_start f h) → x ≡ answer_in f h homes codes
       → x ≡ behind_pages f h (answer_in f h (home_words f h) (code_words f h))
   records_by b u x e c p t start d =
@@ -184,7 +182,7 @@ unfolding few_records
 few_is h e = e
 
 -- ---- the whole
-behind_is : (f : List ℕ) (h : Header) (s y : Survey) → (pages_ok f h ≡ true → s ≡ y) → (pages_ok f h ≡ false → Refused PAGES ≡ y) → behind_pages f h s ≡ y
+behind_is : (f : List ℕ) (h : Header) (s y : Result Counts Refusal) → (pages_ok f h ≡ true → s ≡ y) → (pages_ok f h ≡ false → Err Pages ≡ y) → behind_pages f h s ≡ y
 unfolding pick
 behind_is f h s y a b = ⊎_elim (λ t. rw t (a t)) (λ t. rw t (b t)) (yes_no (pages_ok f h))
 
@@ -192,7 +190,7 @@ module _ (f : List ℕ) (h : Header) (code : ℕ) (is : code ≡ first_failed (e
   abbrev late : List Check
   late = extern_checks (length (externs f h)) ++ target_checks (tally f h)
 
-  refused_by : (k : ℕ) → first_failed (checks f h) ≡ suc k → Refused (suc k) ≡ answer_by (first_failed (checks f h)) (counts f h)
+  refused_by : (k : ℕ) → first_failed (checks f h) ≡ suc k → Err (suc k) ≡ answer_by (first_failed (checks f h)) (counts f h)
   refused_by k e = rw e (says_refused (suc k) (counts f h) (λ z. absurd (omega arith)))
 
   pages_apply : Early f h → pages_ok f h ≡ false → first_failed (checks f h) ≡ PAGES
@@ -211,20 +209,20 @@ module _ (f : List ℕ) (h : Header) (code : ℕ) (is : code ≡ first_failed (e
   pub few_records_lem : code ≡ 0 → h.sections ≤ MAX_SECTIONS
   few_records_lem z = sections_fit f h (early f h [] (sym is ∙ z)).section_table
 
-  pub survey_yes : (x : Survey) → h ≡ header_of f → code ≡ 0 → x ≡ behind_pages f h (answer_in f h (home_words f h) (code_words f h)) → x ≡ survey_of f
+  pub survey_yes : (x : Result Counts Refusal) → h ≡ header_of f → code ≡ 0 → x ≡ behind_pages f h (answer_in f h (home_words f h) (code_words f h)) → x ≡ survey_of f
   survey_yes x q z d = rw (← q) (d ∙ pages_answer z q)
 
-  early_refused : (k : ℕ) → k ≡ first_failed (early_checks f h) → (k ≡ 0 → ⊥) → Refused k ≡ answer_by (first_failed (checks f h)) (counts f h)
+  early_refused : (k : ℕ) → k ≡ first_failed (early_checks f h) → (k ≡ 0 → ⊥) → Err k ≡ answer_by (first_failed (checks f h)) (counts f h)
   early_refused zero e z = absurd (z refl)
   early_refused (suc k) e z = refused_by k (failed_first (early_checks f h) (page_checks f h ++ late) k (sym e))
 
-  pub survey_no : h ≡ header_of f → (code ≡ 0 → ⊥) → Refused code ≡ survey_of f
+  pub survey_no : h ≡ header_of f → (code ≡ 0 → ⊥) → Err code ≡ survey_of f
   survey_no q z = rw (← q) (early_refused code is z)
 
 pub ruleset whole = (few_records_lem, survey_yes, survey_no)
 
 -- ---- the answer by a tally and counts, which are known where UNDEF starts there
-pub targets_by : (f : List ℕ) (h : Header) (home : ℕ → Option RVA) (target : ℕ → Target) (n : ℕ) (u : RVA) (t : Tally) (c : Counts) {r : Survey}
+pub targets_by : (f : List ℕ) (h : Header) (home : ℕ → Option RVA) (target : ℕ → Target) (n : ℕ) (u : RVA) (t : Tally) (c : Counts) {r : Result Counts Refusal}
     → r ≡ answer_by (first_failed (target_checks t)) c → (u ≡ rva (undef_start f h) → c ≡ counts_by f h home n t)
     → (mapped_pages f h ≤ MAX_PAGES → u ≡ rva (undef_start f h) → t ≡ tally_by f h home target)
     → mapped_pages f h ≤ MAX_PAGES → u ≡ rva (undef_start f h) → r ≡ targets_answer f h home target n

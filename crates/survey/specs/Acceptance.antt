@@ -1,5 +1,6 @@
 -- What acceptance gives: of every file that survey accepts, as the small object is (`demands: Table`).
-use Rattle.std.specs.Prelude.{◌≡◌, refl, false, not, List, ◌++◌, ◌⊎◌, ℕ, ◌+◌, ◌*◌, ◌/◌, ◌≤◌, ◌<◌, ◌^◌, ltb, length, get_or, Some}
+use Rattle.refusal.specs.declared.Refusal.{Refusal}
+use Rattle.std.specs.Prelude.{◌≡◌, refl, false, not, List, ◌++◌, ◌⊎◌, ℕ, ◌+◌, ◌*◌, ◌/◌, ◌≤◌, ◌<◌, ◌^◌, ltb, length, get_or, Some, Result, Ok, Err}
 use Rattle.std.proofs.Math.Bool.{true}
 use Rattle.std.proofs.Common.{inl, inr, ⊎_elim, arith}
 use borrow.Author.Tests.{leb-true, not-false, ltb-true, lt-leb, eqb-true}
@@ -35,7 +36,6 @@ use Rattle.fixups.specs.ListLaws.{Stands, fixup_listed, skip_listed, every_fixup
 use Rattle.fixups.specs.TallyLaws.{all_counted, fixups_counted, skips_counted, none_anywhere}
 use Rattle.fixups.specs.OutcomeLaws.{fix_from, homed_not_passed}
 use Rattle.survey.specs.declared.answer.Counts.{Counts}
-use Rattle.survey.specs.declared.answer.Survey.TheVariants.{Accepted}
 use Rattle.survey.specs.Survey.{first_failed, extern_checks, target_checks, outcomes, tally, counts_by, counts, checks, survey_of}
 use Rattle.survey.specs.SurveyLaws.{check_holds, checks_hold, Ordered, ordered, ordered_rest, tells_accepted}
 use Rattle.arch.specs.Machine.{arch_of, arch_by}
@@ -44,7 +44,7 @@ use Rattle.fixups.specs.TargetLaws.{target_near}
 use Rattle.fixups.specs.ValueLaws.{Exact, type_addend}
 
 -- ---- all checks pass, and the counts are the definition's
-module _ (f : List ℕ) (c : Counts) (accepted : survey_of f ≡ Accepted c) where
+module _ (f : List ℕ) (c : Counts) (accepted : survey_of f ≡ Ok c) where
   abbrev header : Header
   header = header_of f
 

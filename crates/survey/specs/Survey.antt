@@ -1,13 +1,14 @@
 -- Survey: the counts, or the first refusal that applies (01, "Survey"). The checks stand in one list, in 01's order; each is over the whole file.
+use Rattle.names.specs.declared.Name.{Name}
+use Rattle.refusal.specs.declared.Refusal.{Refusal}
 use Rattle.arch.specs.declared.RVA.{RVA}
-use Rattle.std.specs.Prelude.{Bool, List, [], ◌∷◌, ◌++◌, ℕ, leb, eqb, length, Option, None}
-use Rattle.refusal.specs.Refusal.{FILE_SIZE, SECTION_TABLE, SYMBOL_TABLE, SECTION_DATA, SECTION_NUMBER, PAGES, PLACE}
+use Rattle.std.specs.Prelude.{Bool, List, [], ◌∷◌, ◌++◌, ℕ, leb, eqb, length, Option, None, Result, Ok, Err, Some}
+use Rattle.refusal.specs.Refusal.{Code, PASSES, answer_of, FILE_SIZE, SECTION_TABLE, SYMBOL_TABLE, SECTION_DATA, SECTION_NUMBER, PAGES, PLACE}
 use Rattle.util.specs.Pick.{pick}
 use Rattle.arch.specs.Machine.{arch_of, arch_by, machine_refusal}
 use Rattle.object.specs.declared.Header.{Header}
 use Rattle.object.specs.Format.{header_of}
 use Rattle.object.specs.Section.{relocation_count}
-use Rattle.names.specs.declared.Name.TheVariants.{Bad}
 use Rattle.names.specs.Name.{name_refusal}
 use Rattle.layout.specs.Layout.{mapped_pages, table_records}
 use Rattle.homes.specs.Home.{section_home}
@@ -16,7 +17,6 @@ use Rattle.limits.specs.Limits.{MAX_EXTERNS}
 use Rattle.bounds.specs.Bounds.{size_ok, machine_ok, section_table_ok, symbol_table_ok, sections_ok, relocation_total}
 use Rattle.good_names.specs.GoodNames.{names_ok}
 use Rattle.checks.specs.Checks.{numbers_ok, pages_ok}
-use Rattle.externs.specs.declared.Names.TheVariants.{TooMany}
 use Rattle.externs.specs.Externs.{externs, names_refusal}
 use Rattle.targets.specs.declared.Target.{Target}
 use Rattle.targets.specs.Target.{targets}
@@ -26,23 +26,21 @@ use Rattle.fixups.specs.declared.Tally.{Tally}
 use Rattle.fixups.specs.Outcome.{outcome, outcome_refusal}
 use Rattle.fixups.specs.Tally.{tally_of}
 use Rattle.survey.specs.declared.answer.Counts.{Counts}
-use Rattle.survey.specs.declared.answer.Survey.{Survey}
-use Rattle.survey.specs.declared.answer.Survey.TheVariants.{Accepted, Refused}
 
--- ---- checks and their numbers
+-- ---- checks and their refusals
 -- whether it passes, and the refusal if it does not
 pub record Check : Type 0 where
   pub passes : Bool
-  pub number : ℕ
+  pub refusal : Code
 
 -- as one stands in the list
-abbrev pub check : Bool → ℕ → Check
-check ok n = record { passes = ok; number = n }
+abbrev pub check : Bool → Code → Check
+check ok r = record { passes = ok; refusal = r }
 
--- the number of the first check that does not pass, 0 if all pass
-unfoldable pub first_failed : List Check → ℕ
-first_failed [] = 0
-first_failed (c ∷ cs) = pick c.passes (first_failed cs) c.number
+-- the refusal of the first check that does not pass; nothing is refused if all pass
+unfoldable pub first_failed : List Check → Code
+first_failed [] = PASSES
+first_failed (c ∷ cs) = pick c.passes (first_failed cs) c.refusal
 
 -- 1 to 7, of the file's records
 abbrev pub early_checks : List ℕ → Header → List Check
@@ -52,7 +50,7 @@ early_checks f h =
     ∷ check (section_table_ok f h) SECTION_TABLE
     ∷ check (symbol_table_ok f h) SYMBOL_TABLE
     ∷ check (sections_ok f h) SECTION_DATA
-    ∷ check (names_ok f h) (name_refusal Bad)
+    ∷ check (names_ok f h) (name_refusal None)
     ∷ check (numbers_ok f h) SECTION_NUMBER
     ∷ []
 
@@ -66,7 +64,7 @@ record_checks f h = early_checks f h ++ page_checks f h
 
 -- 9, by the number of extern names
 abbrev pub extern_checks : ℕ → List Check
-extern_checks n = check (leb n MAX_EXTERNS) (names_refusal TooMany) ∷ []
+extern_checks n = check (leb n MAX_EXTERNS) (names_refusal None) ∷ []
 
 -- 10 and 11, by the tally
 abbrev pub target_checks : Tally → List Check
@@ -116,10 +114,10 @@ module _ (f : List ℕ) (h : Header) where
   checks = record_checks f h ++ (extern_checks (length (externs f h)) ++ target_checks tally)
 
 -- ---- the answer
--- by the number of the first refusal, 0 if there is none
-unfoldable pub answer_by : ℕ → Counts → Survey
-answer_by code c = pick (eqb code 0) (Accepted c) (Refused code)
+-- by the first refusal, if there is one
+abbrev pub answer_by : Code → Counts → Result Counts Refusal
+answer_by = answer_of
 
 -- of a file: the counts, or the first refusal
-abbrev pub survey_of : List ℕ → Survey
+abbrev pub survey_of : List ℕ → Result Counts Refusal
 survey_of f = answer_by (first_failed (checks f (header_of f))) (counts f (header_of f))

@@ -1,5 +1,6 @@
 -- What an answer of survey says of the file.
-use Rattle.std.specs.Prelude.{◌≡◌, refl, Bool, true, false, List, [], ◌∷◌, ◌++◌, ℕ, zero, suc, ◌≤◌, leb, eqb}
+use Rattle.refusal.specs.declared.Refusal.{Refusal}
+use Rattle.std.specs.Prelude.{◌≡◌, refl, Bool, true, false, List, [], ◌∷◌, ◌++◌, ℕ, zero, suc, ◌≤◌, leb, eqb, Result, Ok, Err}
 use Rattle.std.proofs.Common.{sym, ◌∙◌, ⊎_elim, arith, leb-true, ne_eqb}
 use Rattle.util.specs.Pick.{pick, yes_no, and_left, head_passes, rest_passes}
 use Rattle.object.specs.declared.Header.{Header}
@@ -10,7 +11,6 @@ use Rattle.bounds.specs.Bounds.{size_ok, machine_ok, section_table_ok, symbol_ta
 use Rattle.good_names.specs.GoodNames.{names_ok}
 use Rattle.checks.specs.Checks.{numbers_ok, pages_ok}
 use Rattle.survey.specs.declared.answer.Counts.{Counts}
-use Rattle.survey.specs.declared.answer.Survey.TheVariants.{Accepted, Refused}
 use Rattle.survey.specs.Survey.{Check, check, first_failed, early_checks, page_checks, record_checks, answer_by}
 use Rattle.survey.specs.Surveying.{Fits}
 
@@ -107,25 +107,25 @@ module _ (f : List ℕ) (h : Header) where
   unfolding first_failed pick
   records_rest cs o = rw (o.size, o.machine, o.section_table, o.symbol_table, o.sections, o.names, o.numbers, o.pages)
 
-pub says_refused : (code : ℕ) (c : Counts) → (code ≡ 0 → ⊥) → Refused code ≡ answer_by code c
+pub says_refused : (code : ℕ) (c : Counts) → (code ≡ 0 → ⊥) → Err code ≡ answer_by code c
 unfolding answer_by pick
 says_refused code c z = rw (ne_eqb code 0 z)
 
 -- an answer tells its code
-pub tells_accepted : (code : ℕ) (a c : Counts) → answer_by code a ≡ Accepted c → (code ≡ 0) × (a ≡ c)
+pub tells_accepted : (code : ℕ) (a c : Counts) → answer_by code a ≡ Ok c → (code ≡ 0) × (a ≡ c)
 unfolding answer_by pick
 tells_accepted zero a c e = (refl, cc)
 tells_accepted (suc n) a c e =
     let t : eqb (suc n) 0 ≡ false = ne_eqb (suc n) 0 (λ z. absurd (omega arith)) in
-    let z : Refused (suc n) ≡ Accepted c = rw t at e in
+    let z : Err (suc n) ≡ Ok c = rw t at e in
     absurd (let w : ◌≡◌ {A = ℕ} 0 1 = cc in omega arith)
 
-pub tells_refused : (code : ℕ) (a : Counts) (n : ℕ) → answer_by code a ≡ Refused n → (code ≡ n) × (code ≡ 0 → ⊥)
+pub tells_refused : (code : ℕ) (a : Counts) (n : ℕ) → answer_by code a ≡ Err n → (code ≡ n) × (code ≡ 0 → ⊥)
 unfolding answer_by pick
 tells_refused zero a n e = absurd (let w : ◌≡◌ {A = ℕ} 0 1 = cc in omega arith)
 tells_refused (suc k) a n e =
     let t : eqb (suc k) 0 ≡ false = ne_eqb (suc k) 0 (λ z. absurd (omega arith)) in
-    let z : Refused (suc k) ≡ Refused n = rw t at e in
+    let z : Err (suc k) ≡ Err n = rw t at e in
     (cc, λ q. absurd (omega arith))
 
 -- ---- the local arrays hold the file's records

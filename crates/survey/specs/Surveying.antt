@@ -1,12 +1,14 @@
 -- What the parts of survey promise and ask.
+use Rattle.refusal.specs.declared.Refusal.TheVariants.{Pages}
+use Rattle.survey.specs.declared.answer.Counts.{Counts}
+use Rattle.refusal.specs.declared.Refusal.{Refusal}
 use Rattle.arch.specs.declared.RVA.{RVA}
-use Rattle.std.specs.Prelude.{◌≡◌, Bool, ◌&&◌, List, ◌++◌, ℕ, ◌≤◌, leb, length, replicate, Option}
+use Rattle.std.specs.Prelude.{◌≡◌, Bool, ◌&&◌, List, ◌++◌, ℕ, ◌≤◌, leb, length, replicate, Option, Result, Ok, Err}
 use Rattle.util.specs.Pick.{pick}
 use Rattle.le.specs.Le.{splice}
 use Rattle.object.specs.declared.Header.{Header}
 use Rattle.layout.specs.Layout.{undef_start, mapped_pages}
 use Rattle.homes.specs.Home.{homes_to, home_in}
-use Rattle.refusal.specs.Refusal.{PAGES}
 use Rattle.limits.specs.Limits.{MAX_SECTIONS, MAX_SYMBOLS, FEW_SECTIONS, FEW_SYMBOLS, MAX_PAGES}
 use Rattle.checks.specs.Checks.{pages_ok}
 use Rattle.codes.specs.Code.{codes_to, puts_in}
@@ -14,8 +16,6 @@ use Rattle.externs.specs.Externs.{externs_by}
 use Rattle.externs.specs.Slotted.{slotted}
 use Rattle.targets.specs.declared.Target.{Target}
 use Rattle.targets.specs.Table.{target_in}
-use Rattle.survey.specs.declared.answer.Survey.{Survey}
-use Rattle.survey.specs.declared.answer.Survey.TheVariants.{Refused}
 use Rattle.survey.specs.Survey.{first_failed, extern_checks, target_checks, tally_by, counts_by, answer_by}
 
 -- the file's records fit the limits, so that the local arrays hold them
@@ -25,21 +25,21 @@ pub record Fits (f : List ℕ) (h : Header) : Type 0 where
   pub pages : mapped_pages f h ≤ MAX_PAGES
 
 -- an answer behind 8
-abbrev pub behind_pages : List ℕ → Header → Survey → Survey
-behind_pages f h s = pick (pages_ok f h) s (Refused PAGES)
+abbrev pub behind_pages : List ℕ → Header → Result Counts Refusal → Result Counts Refusal
+behind_pages f h s = pick (pages_ok f h) s (Err Pages)
 
 -- ---- the answer by homes and targets, with n extern names
 module _ (f : List ℕ) (h : Header) (home : ℕ → Option RVA) (target : ℕ → Target) (n : ℕ) where
   -- 10, 11 and the counts
-  abbrev pub targets_answer : Survey
+  abbrev pub targets_answer : Result Counts Refusal
   targets_answer = answer_by (first_failed (target_checks (tally_by f h home target))) (counts_by f h home n (tally_by f h home target))
 
   -- the same behind 8
-  abbrev pub planned_by : Survey
+  abbrev pub planned_by : Result Counts Refusal
   planned_by = behind_pages f h targets_answer
 
   -- behind 9
-  abbrev pub externs_answer : Survey
+  abbrev pub externs_answer : Result Counts Refusal
   externs_answer = answer_by (first_failed (extern_checks n ++ target_checks (tally_by f h home target))) (counts_by f h home n (tally_by f h home target))
 
 -- ---- by the words that are kept of the sections and of the symbols
@@ -49,7 +49,7 @@ module _ (f : List ℕ) (h : Header) where
   names_in codes = externs_by f h (puts_in codes)
 
   -- the answer from 9 on, by all of them
-  abbrev pub answer_in : List ℕ → List ℕ → Survey
+  abbrev pub answer_in : List ℕ → List ℕ → Result Counts Refusal
   answer_in homes codes = externs_answer f h (home_in homes) (target_in homes (undef_start f h) (slotted f h (names_in codes) codes)) (length (names_in codes))
 
 -- small arrays hold what is kept of the records

@@ -25,25 +25,25 @@ pub fn records_code(f: &[u8], h: Header) -> u64
     ensures { result ≡ first_failed (early_checks f.now h) }
 {
     if !bounds::size_ok(f) {
-        return refusal::FILE_SIZE;
+        return Refusal::FileSize;
     }
     if !bounds::machine_ok(h) {
-        return refusal::MACHINE;
+        return Refusal::Machine;
     }
     if !bounds::section_table_ok(f, h) {
-        return refusal::SECTION_TABLE;
+        return Refusal::SectionTable;
     }
     if !bounds::symbol_table_ok(f, h) {
-        return refusal::SYMBOL_TABLE;
+        return Refusal::SymbolTable;
     }
     if !bounds::sections_ok(f, h) {
-        return refusal::SECTION_DATA;
+        return Refusal::SectionData;
     }
     if !good_names::names_ok(f, h) {
-        return refusal::NAME;
+        return Refusal::Name;
     }
     if !checks::numbers_ok(f, h) {
-        return refusal::SECTION_NUMBER;
+        return Refusal::SectionNumber;
     }
     0
 }
@@ -84,24 +84,24 @@ fn counts_by(f: &[u8], h: Header, homes: &[u32], undef: RVA, n: usize, t: Tally)
 }
 
 // Refusals 10 and 11, or the counts.
-fn verdict(t: Tally, c: Counts) -> Survey
+fn verdict(t: Tally, c: Counts) -> Result<Counts, Refusal>
     ensures { result ≡ answer_by (first_failed (target_checks t)) c }
 {
     let known = t.refused == 0;
     if known {
         let inside = t.outside == 0;
         if inside {
-            Survey::Accepted(c)
+            Ok(c)
         } else {
-            Survey::Refused(refusal::PLACE)
+            Err(Refusal::Place)
         }
     } else {
-        Survey::Refused(refusal::TARGET)
+        Err(Refusal::Target)
     }
 }
 
 // With n extern names, whose slots are in the codes.
-fn survey_targets(f: &[u8], h: Header, homes: &[u32], undef: RVA, codes: &[u16], n: usize) -> Survey
+fn survey_targets(f: &[u8], h: Header, homes: &[u32], undef: RVA, codes: &[u16], n: usize) -> Result<Counts, Refusal>
     ensures { mapped_pages f.now h ≤ MAX_PAGES → undef ≡ rva (undef_start f.now h) → result ≡ targets_answer f.now h (home_in homes.now) (target_in homes.now (undef_start f.now h) codes.now) n }
 {
     let t = tally_by(f, h, homes, undef, codes);
@@ -116,30 +116,30 @@ pub fn survey_planned(
     undef: RVA,
     codes: &[u16],
     n: usize,
-) -> Survey
+) -> Result<Counts, Refusal>
     ensures { undef ≡ rva (undef_start f.now h) → result ≡ planned_by f.now h (home_in homes.now) (target_in homes.now (undef_start f.now h) codes.now) n }
 {
     if checks::pages_fit(undef) {
         survey_targets(f, h, homes, undef, codes, n)
     } else {
-        Survey::Refused(refusal::PAGES)
+        Err(Refusal::Pages)
     }
 }
 
 // Refusal 9, and what follows.
-fn survey_externs(f: &[u8], h: Header, homes: &[u32], undef: RVA, codes: &mut [u16]) -> Survey
+fn survey_externs(f: &[u8], h: Header, homes: &[u32], undef: RVA, codes: &mut [u16]) -> Result<Counts, Refusal>
     requires { (mapped_pages f.now h ≤ MAX_PAGES) × (undef ≡ rva (undef_start f.now h)) }
     ensures { result ≡ answer_in f.now h homes.now codes.old }
 {
     let mut slots = [0u32; limits::EXTERN_ROOM];
     match externs::collect(f, h, codes, &mut slots) {
-        Names::TooMany => Survey::Refused(refusal::EXTERNS),
+        Names::TooMany => Err(Refusal::Externs),
         Names::Count(n) => survey_targets(f, h, homes, undef, codes, n),
     }
 }
 
 // Refusal 8, by where the sections end; and what follows. Each section's home, and what each symbol record comes to, is found once.
-fn survey_with(f: &[u8], h: Header, homes: &mut [u32], codes: &mut [u16]) -> Survey
+fn survey_with(f: &[u8], h: Header, homes: &mut [u32], codes: &mut [u16]) -> Result<Counts, Refusal>
     requires { (h.sections ≤ MAX_SECTIONS) × Cleared h homes.old codes.old }
     ensures { result ≡ behind_pages f.now h (answer_in f.now h (home_words f.now h) (code_words f.now h)) }
 {
@@ -148,7 +148,7 @@ fn survey_with(f: &[u8], h: Header, homes: &mut [u32], codes: &mut [u16]) -> Sur
         codes::fill_codes(f, h, codes);
         survey_externs(f, h, homes, undef, codes)
     } else {
-        Survey::Refused(refusal::PAGES)
+        Err(Refusal::Pages)
     }
 }
 
@@ -163,7 +163,7 @@ pub fn few_records(h: Header) -> bool
 }
 
 // Of few records in small arrays.
-fn survey_few(f: &[u8], h: Header) -> Survey
+fn survey_few(f: &[u8], h: Header) -> Result<Counts, Refusal>
     requires { (h.sections ≤ MAX_SECTIONS) × (few_records h ≡ true) }
     ensures { result ≡ behind_pages f.now h (answer_in f.now h (home_words f.now h) (code_words f.now h)) }
 {
@@ -173,7 +173,7 @@ fn survey_few(f: &[u8], h: Header) -> Survey
 }
 
 // Of more in large ones.
-fn survey_many(f: &[u8], h: Header) -> Survey
+fn survey_many(f: &[u8], h: Header) -> Result<Counts, Refusal>
     requires { (h.sections ≤ MAX_SECTIONS) × (few_records h ≡ false) }
     ensures { result ≡ behind_pages f.now h (answer_in f.now h (home_words f.now h) (code_words f.now h)) }
 {
@@ -183,7 +183,7 @@ fn survey_many(f: &[u8], h: Header) -> Survey
 }
 
 // What follows refusals 1 to 7.
-fn survey_records(f: &[u8], h: Header) -> Survey
+fn survey_records(f: &[u8], h: Header) -> Result<Counts, Refusal>
     requires { h.sections ≤ MAX_SECTIONS }
     ensures { result ≡ behind_pages f.now h (answer_in f.now h (home_words f.now h) (code_words f.now h)) }
 {
@@ -195,7 +195,7 @@ fn survey_records(f: &[u8], h: Header) -> Survey
 }
 
 // The counts of a file, or the first refusal that applies.
-pub fn survey(f: &[u8]) -> Survey
+pub fn survey(f: &[u8]) -> Result<Counts, Refusal>
     ensures { result ≡ survey_of f.now }
 {
     let h = object::read_header(f);
@@ -203,6 +203,6 @@ pub fn survey(f: &[u8]) -> Survey
     if code == 0 {
         survey_records(f, h)
     } else {
-        Survey::Refused(code)
+        Err(code)
     }
 }

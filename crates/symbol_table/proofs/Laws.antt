@@ -1,5 +1,6 @@
 -- The loop over the symbols. Assumes nothing.
-use Rattle.std.specs.Prelude.{Option}
+use Rattle.names.specs.declared.Name.{Name}
+use Rattle.std.specs.Prelude.{Option, None}
 use Rattle.std.proofs.Common.{◌≡◌, ℕ, ◌+◌, ◌*◌, ◌%◌, ◌^◌, ◌≤◌, Bool, true, false, ◌&&◌, eqb, List, [], ◌∷◌, length, refl, ap, ◌∙◌, arith}
 use Rattle.limits.specs.Records.{SYMBOL_BYTES}
 use Rattle.arch.specs.declared.RVA.{RVA}
@@ -12,7 +13,6 @@ use Rattle.object.specs.declared.Symbol.{Symbol}
 use Rattle.object.specs.Symbol.{symbol_of, kind_of, place_of, listed_of, kind, symbol_place, auxiliaries_left}
 use Rattle.object.specs.SymbolLaws.{left_none, left_past}
 use Rattle.kinds.specs.Symbol.{kind_number}
-use Rattle.names.specs.declared.Name.{Name}
 use Rattle.names.specs.Name.{symbol_name, name_start, name_length}
 use Rattle.stops.specs.Stops.{stops_of}
 use Rattle.stops.specs.Names.{symbol_name_by}
@@ -23,7 +23,7 @@ use Rattle.words.specs.Picked.{picked, Standing, picked_none, picked_more, picke
 use Rattle.symbol_table.specs.Symbols.{symbol_words, symbol_table}
 
 -- a symbol's record from what was read of it
-pub symbol_put : (f : List ℕ) (h : Header) (base : ℕ) (home : ℕ → Option RVA) (row : ℕ → ℕ) (stops b c : List ℕ) (s : Symbol) (j k x v kn ns nl rec : ℕ) (at : RVA) (name : Name) (sk : SymbolKind) (p : Place)
+pub symbol_put : (f : List ℕ) (h : Header) (base : ℕ) (home : ℕ → Option RVA) (row : ℕ → ℕ) (stops b c : List ℕ) (s : Symbol) (j k x v kn ns nl rec : ℕ) (at : RVA) (name : Option Name) (sk : SymbolKind) (p : Place)
     → c ≡ splice b k (word_bytes (x ∷ kn ∷ ns ∷ nl ∷ j ∷ rec ∷ [])) → x ≡ (base + at.0) % 2 ^ 64 → at ≡ rva (offset_from (place_home home p) v) → v ≡ listed_of s → kn ≡ kind_number sk → sk ≡ kind_of s
     → ns ≡ name_start name → nl ≡ name_length name → name ≡ symbol_name_by f h stops j → stops ≡ stops_of false f h → rec ≡ of_place row 0 p → p ≡ place_of s → s ≡ symbol_of f h j
     → c ≡ splice b k (word_bytes (symbol_words f h base home row j))

@@ -1,4 +1,7 @@
 -- The ways through the questions, as the code asks them.
+use Rattle.refusal.specs.declared.Refusal.TheVariants.{NoEntry}
+use Rattle.refusal.specs.declared.Refusal.{Refusal}
+use Rattle.std.specs.Prelude.{Result, Ok, Err}
 use mathlib.Core.Path.{◌≡◌}
 use mathlib.Core.Bool.{Bool, true, false}
 use mathlib.Core.List.{List}
@@ -14,13 +17,9 @@ use Rattle.names.specs.Bytes.{are_same_bytes}
 use Rattle.arch.specs.declared.VA.{VA}
 use Rattle.arch.specs.Address.{va}
 use Rattle.refusal.specs.Refusal.{NO_ENTRY}
-use Rattle.refusal.specs.declared.Number.{Number}
-use Rattle.refusal.specs.declared.Number.TheVariants.{Value, Refusal}
 use Rattle.words.specs.Words.{word_of}
 use Rattle.symbols.specs.declared.Symbol.{Symbol}
-use Rattle.symbols.specs.declared.SymbolAnswer.TheVariants as S
 use Rattle.symbols.specs.declared.Extern.{Extern}
-use Rattle.symbols.specs.declared.ExternAnswer.TheVariants as E
 use Rattle.symbols.specs.Symbol.{
   symbol_count,
   extern_count,
@@ -65,19 +64,19 @@ module _ (table : List ℕ) (k : ℕ) where
 
 -- ---- the ways through the questions by number
 module _ (table : List ℕ) (k : ℕ) where
-  pub symbol_there : (r : Symbol) → k < symbol_count table → r ≡ symbol_record table k → S.Entry r ≡ symbol_entry table k
+  pub symbol_there : (r : Symbol) → k < symbol_count table → r ≡ symbol_record table k → Ok r ≡ symbol_entry table k
   unfolding symbol_entry pick
   symbol_there r h e = rw (lt-ltb k (symbol_count table) h, e)
 
-  pub symbol_past : symbol_count table ≤ k → S.Refused NO_ENTRY ≡ symbol_entry table k
+  pub symbol_past : symbol_count table ≤ k → Err NoEntry ≡ symbol_entry table k
   unfolding symbol_entry pick
   symbol_past h = rw (le-ltb k (symbol_count table) h)
 
-  pub extern_there : (r : Extern) → k < extern_count table → r ≡ extern_record table k → E.Entry r ≡ extern_entry table k
+  pub extern_there : (r : Extern) → k < extern_count table → r ≡ extern_record table k → Ok r ≡ extern_entry table k
   unfolding extern_entry pick
   extern_there r h e = rw (lt-ltb k (extern_count table) h, e)
 
-  pub extern_past : extern_count table ≤ k → E.Refused NO_ENTRY ≡ extern_entry table k
+  pub extern_past : extern_count table ≤ k → Err NoEntry ≡ extern_entry table k
   unfolding extern_entry pick
   extern_past h = rw (le-ltb k (extern_count table) h)
 
@@ -103,8 +102,8 @@ unfolding lies_at
 lies_at_is table a k x e = rw e
 
 -- ---- the ways through the two scans
-module _ (p : ℕ → Bool) (n : ℕ) (A : Number) where
-  pub last_hit : {r : Bool} → 0 < n → last_to NO_ENTRY p n ≡ A → r ≡ p (n - 1) → r ≡ true → Value (n - 1) ≡ A
+module _ (p : ℕ → Bool) (n : ℕ) (A : Result ℕ Refusal) where
+  pub last_hit : {r : Bool} → 0 < n → last_to NO_ENTRY p n ≡ A → r ≡ p (n - 1) → r ≡ true → Ok (n - 1) ≡ A
   unfolding last_to pick
   last_hit h e q t = let s : n ≡ suc (n - 1) = omega arith in rw (s, ← q, t) at e
 
@@ -112,12 +111,12 @@ module _ (p : ℕ → Bool) (n : ℕ) (A : Number) where
   unfolding last_to pick
   last_miss h e q t = let s : n ≡ suc (n - 1) = omega arith in rw (s, ← q, t) at e
 
-  pub last_end : n ≤ 0 → last_to NO_ENTRY p n ≡ A → Refusal NO_ENTRY ≡ A
+  pub last_end : n ≤ 0 → last_to NO_ENTRY p n ≡ A → Err NoEntry ≡ A
   unfolding last_to
   last_end h e = let s : n ≡ 0 = omega arith in rw s at e
 
   module _ (k : ℕ) where
-    pub first_hit : {r : Bool} → k < n → first_from p k (n - k) ≡ A → r ≡ p k → r ≡ true → Value k ≡ A
+    pub first_hit : {r : Bool} → k < n → first_from p k (n - k) ≡ A → r ≡ p k → r ≡ true → Ok k ≡ A
     unfolding first_from pick
     first_hit h e q t = let s : n - k ≡ suc (n - (k + 1)) = omega arith in rw (s, ← q, t) at e
 
@@ -125,7 +124,7 @@ module _ (p : ℕ → Bool) (n : ℕ) (A : Number) where
     unfolding first_from pick
     first_miss h e q t = let s : n - k ≡ suc (n - (k + 1)) = omega arith in let d : suc k ≡ k + 1 = omega arith in rw d at (rw (s, ← q, t) at e)
 
-    pub first_end : n ≤ k → first_from p k (n - k) ≡ A → Refusal NO_ENTRY ≡ A
+    pub first_end : n ≤ k → first_from p k (n - k) ≡ A → Err NoEntry ≡ A
     unfolding first_from
     first_end h e = let s : n - k ≡ 0 = omega arith in rw s at e
 

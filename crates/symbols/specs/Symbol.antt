@@ -1,19 +1,14 @@
 -- Questions to the tables of symbols and of extern names (01, "Layout, slots and fixups": a name finds the last, an address all).
-use Rattle.std.specs.Prelude.{Bool, List, [], ℕ, zero, suc, ◌-◌, ◌/◌, ltb, eqb, length}
+use Rattle.refusal.specs.declared.Refusal.TheVariants.{NoEntry}
+use Rattle.refusal.specs.declared.Refusal.{Refusal}
+use Rattle.std.specs.Prelude.{Bool, List, [], ℕ, zero, suc, ◌-◌, ◌/◌, ltb, eqb, length, Result, Ok, Err}
 use Rattle.util.specs.Pick.{pick}
 use Rattle.le.specs.Le.{part}
 use Rattle.names.specs.Bytes.{are_same_bytes}
 use Rattle.arch.specs.declared.VA.{VA}
 use Rattle.arch.specs.Address.{va}
-use Rattle.refusal.specs.declared.Number.{Number}
-use Rattle.refusal.specs.declared.Number.TheVariants.{Value, Refusal}
 use Rattle.symbols.specs.declared.Symbol.{Symbol}
-use Rattle.symbols.specs.declared.SymbolAnswer.{SymbolAnswer}
-use Rattle.symbols.specs.declared.SymbolAnswer.TheVariants as S
 use Rattle.symbols.specs.declared.Extern.{Extern}
-use Rattle.symbols.specs.declared.ExternAnswer.{ExternAnswer}
-use Rattle.symbols.specs.declared.ExternAnswer.TheVariants as E
-use Rattle.refusal.specs.Refusal.{NO_ENTRY}
 use Rattle.words.specs.Words.{word_of}
 use Rattle.limits.specs.Records.{SYMBOL_WORDS, SYMBOL_BYTES, EXTERN_WORDS, EXTERN_BYTES, ADDRESS, NAME_START, NAME_LENGTH, SYMBOL_KIND, SYMBOL_NUMBER, SYMBOL_HOME, EXTERN_NUMBER}
 
@@ -48,12 +43,12 @@ extern_record table k = record {
 }
 
 -- below the count the record, else a refusal
-unfoldable pub symbol_entry : List ℕ → ℕ → SymbolAnswer
-symbol_entry table k = pick (ltb k (symbol_count table)) (S.Entry (symbol_record table k)) (S.Refused NO_ENTRY)
+unfoldable pub symbol_entry : List ℕ → ℕ → Result Symbol Refusal
+symbol_entry table k = pick (ltb k (symbol_count table)) (Ok (symbol_record table k)) (Err NoEntry)
 
 -- of an extern name likewise
-unfoldable pub extern_entry : List ℕ → ℕ → ExternAnswer
-extern_entry table k = pick (ltb k (extern_count table)) (E.Entry (extern_record table k)) (E.Refused NO_ENTRY)
+unfoldable pub extern_entry : List ℕ → ℕ → Result Extern Refusal
+extern_entry table k = pick (ltb k (extern_count table)) (Ok (extern_record table k)) (Err NoEntry)
 
 -- ---- a record by name
 -- the name of record k of n, of W words each, as that part of the file
@@ -65,32 +60,32 @@ abbrev pub has_name : ℕ → ℕ → List ℕ → List ℕ → List ℕ → ℕ
 has_name W n file table name k = are_same_bytes (name_of W n file table k) name
 
 -- the last below n of which p holds; where there is none, the refusal c
-unfoldable pub last_to : ℕ → (ℕ → Bool) → ℕ → Number
-last_to c p zero = Refusal c
-last_to c p (suc n) = pick (p n) (Value n) (last_to c p n)
+unfoldable pub last_to : Refusal → (ℕ → Bool) → ℕ → Result ℕ Refusal
+last_to c p zero = Err c
+last_to c p (suc n) = pick (p n) (Ok n) (last_to c p n)
 
 -- a name finds the last
-abbrev pub last_named : ℕ → ℕ → List ℕ → List ℕ → List ℕ → Number
-last_named W n file table name = last_to NO_ENTRY (has_name W n file table name) n
+abbrev pub last_named : ℕ → ℕ → List ℕ → List ℕ → List ℕ → Result ℕ Refusal
+last_named W n file table name = last_to NoEntry (has_name W n file table name) n
 
 -- the last symbol of a name, by its record's number
-abbrev pub symbol_named : List ℕ → List ℕ → List ℕ → Number
+abbrev pub symbol_named : List ℕ → List ℕ → List ℕ → Result ℕ Refusal
 symbol_named file table name = last_named SYMBOL_WORDS (symbol_count table) file table name
 
 -- the last extern entry of a name; load's list has each name once
-abbrev pub extern_named : List ℕ → List ℕ → List ℕ → Number
+abbrev pub extern_named : List ℕ → List ℕ → List ℕ → Result ℕ Refusal
 extern_named file table name = last_named EXTERN_WORDS (extern_count table) file table name
 
 -- ---- a record by address
 -- the first from k on of n of which p holds
-unfoldable pub first_from : (ℕ → Bool) → ℕ → ℕ → Number
-first_from p k zero = Refusal NO_ENTRY
-first_from p k (suc n) = pick (p k) (Value k) (first_from p (suc k) n)
+unfoldable pub first_from : (ℕ → Bool) → ℕ → ℕ → Result ℕ Refusal
+first_from p k zero = Err NoEntry
+first_from p k (suc n) = pick (p k) (Ok k) (first_from p (suc k) n)
 
 -- record k lies at that address
 unfoldable pub lies_at : List ℕ → VA → ℕ → Bool
 lies_at table a k = eqb (word_of SYMBOL_WORDS table k ADDRESS) a.0
 
 -- an address finds all, one after another
-abbrev pub symbol_at : List ℕ → VA → ℕ → Number
+abbrev pub symbol_at : List ℕ → VA → ℕ → Result ℕ Refusal
 symbol_at table a from = first_from (lies_at table a) from (symbol_count table - from)

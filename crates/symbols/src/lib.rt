@@ -25,7 +25,7 @@ use limits::{
     ADDRESS, EXTERN_BYTES, EXTERN_NUMBER, EXTERN_WORDS, NAME_LENGTH, NAME_START, SYMBOL_BYTES,
     SYMBOL_HOME, SYMBOL_KIND, SYMBOL_NUMBER, SYMBOL_WORDS, WORD,
 };
-use refusal::{NO_ENTRY, Number};
+use refusal::Refusal;
 
 // A record of the symbol table, as docs/HOST.md has it.
 #[derive(Clone, Copy)]
@@ -91,7 +91,7 @@ fn has_name(file: &[u8], table: &[u8], name: &[u8], width: u8, n: usize, k: usiz
 }
 
 // The number of the last of n records with that name.
-fn last_named(file: &[u8], table: &[u8], name: &[u8], width: u8, n: usize) -> Number
+fn last_named(file: &[u8], table: &[u8], name: &[u8], width: u8, n: usize) -> Result<u64, Refusal>
     requires { (NAME_LENGTH < width) × (WORD * (width * n) ≤ 2 ^ 64) }
     ensures { result ≡ last_named width n file.now table.now name.now }
 {
@@ -99,11 +99,11 @@ fn last_named(file: &[u8], table: &[u8], name: &[u8], width: u8, n: usize) -> Nu
     while 0 < left {
         let k = left - 1;
         if has_name(file, table, name, width, n, k) {
-            return Number::Value(k as u64);
+            return Ok(k as u64);
         }
         left = k;
     }
-    Number::Refusal(NO_ENTRY)
+    Err(Refusal::NoEntry)
 }
 
 // How many records the table of symbols has.
@@ -128,13 +128,13 @@ fn symbol_record(table: &[u8], k: usize) -> Symbol
 }
 
 // Record k, from 0; at the count or above it is 20.
-pub fn symbol_entry(table: &[u8], k: usize) -> SymbolAnswer
+pub fn symbol_entry(table: &[u8], k: usize) -> Result<Symbol, Refusal>
     ensures { result ≡ symbol_entry table.now k }
 {
     if k < table.len() / SYMBOL_BYTES {
-        SymbolAnswer::Entry(symbol_record(table, k))
+        Ok(symbol_record(table, k))
     } else {
-        SymbolAnswer::Refused(NO_ENTRY)
+        SymbolErr(Refusal::NoEntry)
     }
 }
 
@@ -146,7 +146,7 @@ pub fn symbol_name_of<'a>(file: &'a [u8], table: &[u8], k: usize) -> &'a [u8]
 }
 
 // The number of the last record with that name.
-pub fn symbol_named(file: &[u8], table: &[u8], name: &[u8]) -> Number
+pub fn symbol_named(file: &[u8], table: &[u8], name: &[u8]) -> Result<u64, Refusal>
     ensures { result ≡ symbol_named file.now table.now name.now }
 {
     last_named(file, table, name, SYMBOL_WORDS, table.len() / SYMBOL_BYTES)
@@ -160,18 +160,18 @@ fn lies_at(table: &[u8], va: VA, k: usize) -> bool
 }
 
 // The number of the first record from `from` on at that address: with one more than the answer it gives the next.
-pub fn symbol_at(table: &[u8], va: VA, from: usize) -> Number
+pub fn symbol_at(table: &[u8], va: VA, from: usize) -> Result<u64, Refusal>
     ensures { result ≡ symbol_at table.now va from }
 {
     let n = table.len() / SYMBOL_BYTES;
     let mut k = from;
     while k < n {
         if lies_at(table, va, k) {
-            return Number::Value(k as u64);
+            return Ok(k as u64);
         }
         k += 1;
     }
-    Number::Refusal(NO_ENTRY)
+    Err(Refusal::NoEntry)
 }
 
 // How many records the table of extern names has.
@@ -194,13 +194,13 @@ fn extern_record(table: &[u8], k: usize) -> Extern
 }
 
 // Record k, from 0; at the count or above it is 20.
-pub fn extern_entry(table: &[u8], k: usize) -> ExternAnswer
+pub fn extern_entry(table: &[u8], k: usize) -> Result<Extern, Refusal>
     ensures { result ≡ extern_entry table.now k }
 {
     if k < table.len() / EXTERN_BYTES {
-        ExternAnswer::Entry(extern_record(table, k))
+        Ok(extern_record(table, k))
     } else {
-        ExternAnswer::Refused(NO_ENTRY)
+        ExternErr(Refusal::NoEntry)
     }
 }
 
@@ -212,7 +212,7 @@ pub fn extern_name_of<'a>(file: &'a [u8], table: &[u8], k: usize) -> &'a [u8]
 }
 
 // The number of the last record with that name.
-pub fn extern_named(file: &[u8], table: &[u8], name: &[u8]) -> Number
+pub fn extern_named(file: &[u8], table: &[u8], name: &[u8]) -> Result<u64, Refusal>
     ensures { result ≡ extern_named file.now table.now name.now }
 {
     last_named(file, table, name, EXTERN_WORDS, table.len() / EXTERN_BYTES)

@@ -1,5 +1,6 @@
 -- The loops of the tables. Assumes nothing.
-use Rattle.std.specs.Prelude.{Option}
+use Rattle.names.specs.declared.Name.{Name}
+use Rattle.std.specs.Prelude.{Option, None}
 use Rattle.std.proofs.Common.{◌≡◌, ℕ, ◌+◌, ◌*◌, ◌%◌, ◌^◌, ◌≤◌, Bool, true, false, List, [], ◌∷◌, ◌++◌, length, get_or, sym, refl, ap, ◌∙◌, add-one, arith}
 use Rattle.limits.specs.Limits.{SLOT_SIZE}
 use Rattle.limits.specs.Records.{SECTION_BYTES, EXTERN_BYTES}
@@ -10,7 +11,6 @@ use Rattle.homes.specs.Home.{start_of}
 use Rattle.le.specs.Le.{splice, splice_long}
 use Rattle.object.specs.declared.Header.{Header}
 use Rattle.object.specs.Section.{loaded, range_length, file_start, file_end, permissions}
-use Rattle.names.specs.declared.Name.{Name}
 use Rattle.names.specs.Name.{section_name, symbol_name, name_start, name_length}
 use Rattle.stops.specs.Stops.{stops_of}
 use Rattle.stops.specs.Names.{symbol_name_by, section_name_by}
@@ -28,7 +28,7 @@ two_low a b ws x y p q =
     let e : y ≡ (a + b) % 2 ^ 64 = omega arith in
     rw (p, e) (word_low a _ ∙ word_next a (a + b) ws)
 
-pub section_put : (f : List ℕ) (h : Header) (base : ℕ) (home : ℕ → Option RVA) (stops b c : List ℕ) (i k len from to perm ns nl x y : ℕ) (at : RVA) (name : Name)
+pub section_put : (f : List ℕ) (h : Header) (base : ℕ) (home : ℕ → Option RVA) (stops b c : List ℕ) (i k len from to perm ns nl x y : ℕ) (at : RVA) (name : Option Name)
     → c ≡ splice b k (word_bytes (x ∷ y ∷ from ∷ to ∷ perm ∷ ns ∷ nl ∷ (i + 1) ∷ [])) → x ≡ (base + at.0) % 2 ^ 64 → y ≡ (x + len) % 2 ^ 64 → at ≡ rva (start_of (home i)) → len ≡ range_length f h i
     → from ≡ file_start f h i → to ≡ file_end f h i → perm ≡ permissions f h i → ns ≡ name_start name → nl ≡ name_length name → name ≡ section_name_by f h stops i → stops ≡ stops_of true f h
     → c ≡ splice b k (word_bytes (section_words f h base home i))
@@ -75,7 +75,7 @@ sections_long T R l b c i n o d = splice_long b c (SECTION_BYTES * n) R d ∙ st
 pub ruleset sections_loop = (sections_none, sections_end, sections_long)
 
 -- ---- externs
-pub extern_put : (f : List ℕ) (h : Header) (base undef : ℕ) (slots stops b c : List ℕ) (e k j ns nl s x : ℕ) (name : Name) → c ≡ splice b k (word_bytes (x ∷ j ∷ ns ∷ nl ∷ []))
+pub extern_put : (f : List ℕ) (h : Header) (base undef : ℕ) (slots stops b c : List ℕ) (e k j ns nl s x : ℕ) (name : Option Name) → c ≡ splice b k (word_bytes (x ∷ j ∷ ns ∷ nl ∷ []))
     → s ≡ (base + undef) % 2 ^ 64 → x ≡ (s + SLOT_SIZE * e) % 2 ^ 64 → j ≡ get_or slots e 0 → ns ≡ name_start name → nl ≡ name_length name → name ≡ symbol_name_by f h stops j → stops ≡ stops_of false f h
     → c ≡ splice b k (word_bytes (extern_words f h base undef slots e))
 unfolding extern_words

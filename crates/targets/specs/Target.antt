@@ -3,7 +3,7 @@ use Rattle.arch.specs.declared.RVA.{RVA}
 use Rattle.std.specs.Prelude.{◌≡◌, refl, List, ℕ, ◌+◌, ◌*◌, leb, None, Option, Some}
 use Rattle.util.specs.Pick.{pick}
 use Rattle.limits.specs.Limits.{SLOT_SIZE}
-use Rattle.refusal.specs.Refusal.{TARGET}
+use Rattle.refusal.specs.Refusal.{Code, PASSES, TARGET}
 use Rattle.arch.specs.Address.{rva}
 use Rattle.object.specs.declared.Header.{Header}
 use Rattle.object.specs.Symbol.{primary}
@@ -31,11 +31,11 @@ skip_number NoSlot = 3
 skip_number NoType = 4
 
 -- the refusal of each case (01, "Survey"), 0 where there is none
-abbrev pub target_refusal : Target → ℕ
-target_refusal (Home o) = 0
-target_refusal (Named o) = 0
-target_refusal (Slot o) = 0
-target_refusal (Missing k) = 0
+abbrev pub target_refusal : Target → Code
+target_refusal (Home o) = PASSES
+target_refusal (Named o) = PASSES
+target_refusal (Slot o) = PASSES
+target_refusal (Missing k) = PASSES
 target_refusal Refused = TARGET
 
 -- a symbol in a section: where that section's home starts

@@ -16,7 +16,7 @@ ghost use Rattle.module.specs.Routine.{routine};
 use answers::AddressAnswer;
 use arch::VA;
 use nearest::RoutineAnswer;
-use refusal::Number;
+use refusal::Refusal;
 use section::{OffsetProbe, Probe, Section};
 
 // A record with no range, no bytes in the file and an empty name.
@@ -52,14 +52,14 @@ pub fn sections(table: &[u8]) -> [Section; 17] {
 }
 
 // The questions, each on the table lent for it: how far into the file an address is.
-pub fn file_offset(t: [Section; 17], va: VA) -> Number
+pub fn file_offset(t: [Section; 17], va: VA) -> Result<u64, Refusal>
     ensures { result ≡ file_offset t va }
 {
     module::file_offset(&t, va)
 }
 
 // Which section holds an address.
-pub fn section_of(t: [Section; 17], va: VA) -> Number
+pub fn section_of(t: [Section; 17], va: VA) -> Result<u64, Refusal>
     ensures { result ≡ section_of t va }
 {
     module::section_of(&t, va)
@@ -87,28 +87,28 @@ pub fn probe_rva(t: [Section; 17], q: OffsetProbe) -> bool
 }
 
 // Which address a file offset has.
-pub fn virtual_address(t: [Section; 17], offset: u64) -> AddressAnswer
+pub fn virtual_address(t: [Section; 17], offset: u64) -> Result<VA, Refusal>
     ensures { result ≡ virtual_address t offset }
 {
     module::virtual_address(&t, offset)
 }
 
 // Which section has a file offset.
-pub fn section_of_offset(t: [Section; 17], offset: u64) -> Number
+pub fn section_of_offset(t: [Section; 17], offset: u64) -> Result<u64, Refusal>
     ensures { result ≡ section_of_offset t offset }
 {
     module::section_of_offset(&t, offset)
 }
 
 // Which section has a name.
-pub fn section_named(t: [Section; 17], file: &[u8], name: &[u8]) -> Number
+pub fn section_named(t: [Section; 17], file: &[u8], name: &[u8]) -> Result<u64, Refusal>
     ensures { result ≡ section_named t file.now name.now }
 {
     module::section_named(&t, file, name)
 }
 
 // Which routine an address is in.
-pub fn routine(t: [Section; 17], symbols: &[u8], va: VA) -> RoutineAnswer
+pub fn routine(t: [Section; 17], symbols: &[u8], va: VA) -> Result<Routine, Refusal>
     ensures { result ≡ routine t symbols.now va }
 {
     module::routine(&t, symbols, va)

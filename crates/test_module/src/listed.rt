@@ -15,8 +15,8 @@ pub fn symbols(f: &[u8], table: &[u8], n: u16) {
 fn symbol(f: &[u8], table: &[u8], k: u32) {
     cases::text(b"symbol");
     match symbols::symbol_entry(table, k as usize) {
-        SymbolAnswer::Entry(s) => symbol_at(f, table, s, k),
-        SymbolAnswer::Refused(n) => say::refused(n),
+        Ok(s) => symbol_at(f, table, s, k),
+        SymbolErr(n) => say::refused(n),
     }
     say::end();
 }
@@ -44,8 +44,8 @@ pub fn externs(f: &[u8], table: &[u8], n: u16) {
 fn extern_name(f: &[u8], table: &[u8], k: u32) {
     cases::text(b"extern");
     match symbols::extern_entry(table, k as usize) {
-        ExternAnswer::Entry(e) => extern_at(f, table, e, k),
-        ExternAnswer::Refused(n) => say::refused(n),
+        Ok(e) => extern_at(f, table, e, k),
+        ExternErr(n) => say::refused(n),
     }
     say::end();
 }

@@ -56,8 +56,8 @@ fn loaded(f: &[u8]) {
         &mut skips,
     );
     match s {
-        Load::Refused(n) => refused(n),
-        Load::Loaded(c) => {
+        Err(n) => refused(n),
+        Ok(c) => {
             asked(f, c, &sections, &symbols, &externs);
             read(f, c, &image, &marks, &sections);
         }

@@ -1,7 +1,7 @@
 // Answers on standard output. A word that many lines have is written in one place, since each place that lends one is proved.
 use answers::{AddressAnswer, OffsetAnswer};
 use nearest::RoutineAnswer;
-use refusal::Number;
+use refusal::Refusal;
 
 // The end of a line.
 pub fn end() {
@@ -30,37 +30,37 @@ pub fn name(s: &[u8]) {
 }
 
 // A number, or `refused` and its number.
-pub fn number(n: Number) {
+pub fn number(n: Result<u64, Refusal>) {
     match n {
-        Number::Value(k) => value(k),
-        Number::Refusal(k) => refused(k),
+        Ok(k) => value(k),
+        Err(k) => refused(k),
     }
 }
 
 // An address, or `refused` and the number.
-pub fn address(a: AddressAnswer) {
+pub fn address(a: Result<VA, Refusal>) {
     match a {
-        AddressAnswer::Found(va) => place(va.0),
-        AddressAnswer::Refused(k) => refused(k),
+        Ok(va) => place(va.0),
+        AddressErr(k) => refused(k),
     }
 }
 
 // An offset from the base, or `refused` and the number.
-pub fn offset(a: OffsetAnswer) {
+pub fn offset(a: Result<RVA, Refusal>) {
     match a {
-        OffsetAnswer::Found(rva) => place(rva.0),
-        OffsetAnswer::Refused(k) => refused(k),
+        Ok(rva) => place(rva.0),
+        OffsetErr(k) => refused(k),
     }
 }
 
 // A symbol's number and a distance, or `refused` and the number.
-pub fn routine(a: RoutineAnswer) {
+pub fn routine(a: Result<Routine, Refusal>) {
     match a {
-        RoutineAnswer::Found(r) => {
+        Ok(r) => {
             value(r.symbol);
             value(r.distance);
         }
-        RoutineAnswer::Refused(k) => refused(k),
+        RoutineErr(k) => refused(k),
     }
 }
 

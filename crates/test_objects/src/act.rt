@@ -3,7 +3,7 @@ ghost use Rattle.std.specs.Prelude.{◌≤◌};
 
 use crate::say;
 use arch::VA;
-use refusal::Answer;
+use refusal::Refusal;
 use survey::Counts;
 
 const TABLES: u8 = 0;
@@ -191,7 +191,7 @@ fn least(a: usize, b: usize) -> usize
 
 fn into(base: u64, address: u64, image: &[u8], marks: &[u8], buffer: &mut [u8]) {
     match aspace::absolute::read_into(image, marks, VA(base), VA(address), buffer) {
-        Answer::Refused(n) => cases::refused(n),
-        Answer::Done => say::crc(buffer),
+        Err(n) => cases::refused(n),
+        Ok(()) => say::crc(buffer),
     }
 }

@@ -44,11 +44,11 @@ pub(crate) fn at(line: &[u8], base: u64, f: &[u8], text: &[u8], from: usize) {
 }
 
 // What was counted, written behind the line; nothing of an object that is refused.
-fn counts(line: &[u8], s: Load) -> Counts {
+fn counts(line: &[u8], s: Result<Counts, Refusal>) -> Counts {
     say::load(line, s);
     match s {
-        Load::Loaded(c) => c,
-        Load::Refused(_) => Counts {
+        Ok(c) => c,
+        Err(_) => Counts {
             pages: 0,
             sections: 0,
             symbols: 0,

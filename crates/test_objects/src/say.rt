@@ -8,21 +8,21 @@ use patch::Patch;
 use survey::{Counts, Survey};
 
 // A line with survey's answer.
-pub(crate) fn survey(line: &[u8], s: Survey) {
+pub(crate) fn survey(line: &[u8], s: Result<Counts, Refusal>) {
     cases::text(line);
     match s {
-        Survey::Accepted(c) => counts(c),
-        Survey::Refused(n) => cases::refused(n),
+        Ok(c) => counts(c),
+        Err(n) => cases::refused(n),
     }
     cases::end();
 }
 
 // A line with load's answer.
-pub(crate) fn load(line: &[u8], s: Load) {
+pub(crate) fn load(line: &[u8], s: Result<Counts, Refusal>) {
     cases::text(line);
     match s {
-        Load::Loaded(c) => counts(c),
-        Load::Refused(n) => cases::refused(n),
+        Ok(c) => counts(c),
+        Err(n) => cases::refused(n),
     }
     cases::end();
 }
@@ -86,11 +86,11 @@ pub(crate) fn laid(image: &[u8], pages: u64) {
     cases::padded(cases::crc32(counted(image, pages)), 8);
 }
 
-pub(crate) fn patched(line: &[u8], answer: Patch, image: &[u8], pages: u64) {
+pub(crate) fn patched(line: &[u8], answer: Result<Progress, Refusal>, image: &[u8], pages: u64) {
     cases::text(line);
     match answer {
-        Patch::Refused(n) => cases::refused(n),
-        Patch::Applied(p) => {
+        Err(n) => cases::refused(n),
+        Ok(p) => {
             cases::part(b" position ", p.position);
             cases::part(b" done ", if p.done { 1 } else { 0 });
             crc(counted(image, pages));
@@ -99,10 +99,10 @@ pub(crate) fn patched(line: &[u8], answer: Patch, image: &[u8], pages: u64) {
     cases::end();
 }
 
-pub(crate) fn routine(answer: RoutineAnswer) {
+pub(crate) fn routine(answer: Result<Routine, Refusal>) {
     match answer {
-        RoutineAnswer::Refused(n) => cases::refused(n),
-        RoutineAnswer::Found(a) => {
+        RoutineErr(n) => cases::refused(n),
+        Ok(a) => {
             cases::part(b" symbol ", a.symbol);
             cases::part(b" distance ", a.distance);
         }

@@ -1,6 +1,6 @@
 // Questions to `pagemap`.
 use arch::RVA;
-use refusal::Answer;
+use refusal::Refusal;
 
 // Behind what a write answers stands whether image and marks were kept, and the first word of the marks.
 pub(crate) fn pagemap(line: &[u8], image: &mut [u8], marks: &mut [u8], given: &[u8]) {
@@ -36,7 +36,7 @@ fn write(
     image: &mut [u8],
     marks: &mut [u8],
     items: &[u8],
-) -> Answer {
+) -> Result<(), Refusal> {
     match question {
         0 => pagewrite::write(image, marks, at, items),
         1 => pagewrite::writezx(image, marks, at, items),
@@ -97,7 +97,7 @@ fn filled(question: u8, start: RVA, end: RVA, image: &[u8], marks: &[u8], buf: &
     shown(buf);
 }
 
-fn into(question: u8, start: RVA, end: RVA, image: &[u8], marks: &[u8], buf: &mut [u8]) -> Answer {
+fn into(question: u8, start: RVA, end: RVA, image: &[u8], marks: &[u8], buf: &mut [u8]) -> Result<(), Refusal> {
     match question {
         6 => pagemap::slice_into(image, marks, start, buf),
         _ => pagemap::slice(image, marks, start, end, buf),

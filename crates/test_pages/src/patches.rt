@@ -33,11 +33,11 @@ pub(crate) fn patch(line: &[u8], image: &mut [u8], marks: &[u8], given: &[u8]) {
 }
 
 // The position behind the portion, and whether it is the list's end.
-fn told(answer: Patch) {
+fn told(answer: Result<Progress, Refusal>) {
     cases::text(b" =");
     match answer {
-        Patch::Refused(code) => cases::refused(code),
-        Patch::Applied(p) => {
+        Err(code) => cases::refused(code),
+        Ok(p) => {
             cases::decimal(p.position);
             cases::yes(p.done);
         }

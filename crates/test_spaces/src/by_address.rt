@@ -2,7 +2,7 @@
 use crate::reads;
 use arch::{Arch, VA};
 use aspace::absolute;
-use refusal::{Answer, Number};
+use refusal::Refusal;
 
 // `write N BASE AT`, of bytes 0x5A.
 pub(crate) fn absolute(line: &[u8], image: &mut [u8], marks: &[u8]) {
@@ -36,7 +36,7 @@ fn write(
     image: &mut [u8],
     marks: &[u8],
     items: &[u8],
-) -> Answer {
+) -> Result<(), Refusal> {
     match question {
         0 => write::absolute::write(image, marks, base, at, items),
         1 => write::absolute::write_u16(image, marks, base, at, (v % 65536) as u16),
@@ -70,7 +70,7 @@ fn read(question: u8, line: &[u8], image: &[u8], marks: &[u8]) {
     }
 }
 
-fn number(question: u8, image: &[u8], marks: &[u8], base: VA, at: VA) -> Number {
+fn number(question: u8, image: &[u8], marks: &[u8], base: VA, at: VA) -> Result<u64, Refusal> {
     match question {
         9 => absolute::read_u8(image, marks, base, at),
         10 => absolute::read_u16(image, marks, base, at),
@@ -78,6 +78,6 @@ fn number(question: u8, image: &[u8], marks: &[u8], base: VA, at: VA) -> Number 
         12 => absolute::read_u64(image, marks, base, at),
         13 => absolute::read_pointer(image, marks, base, Arch::X32, at),
         14 => absolute::read_pointer(image, marks, base, Arch::X64, at),
-        _ => Number::Refusal(0),
+        _ => Err(0),
     }
 }

@@ -2,7 +2,7 @@
 use crate::reads;
 use arch::{Arch, RVA};
 use aspace::relative;
-use refusal::{Answer, Number};
+use refusal::Refusal;
 
 // `write N AT BYTES`: these bytes, or 0x5A for each that is not there. Behind what a write answers stands whether the image was kept.
 pub(crate) fn relative(line: &[u8], image: &mut [u8], marks: &[u8]) {
@@ -28,7 +28,7 @@ pub(crate) fn relative(line: &[u8], image: &mut [u8], marks: &[u8]) {
 }
 
 // `write_u16 VALUE AT` and the like; a signed value in two's complement.
-fn write(question: u8, v: u64, at: RVA, image: &mut [u8], marks: &[u8], items: &[u8]) -> Answer {
+fn write(question: u8, v: u64, at: RVA, image: &mut [u8], marks: &[u8], items: &[u8]) -> Result<(), Refusal> {
     match question {
         0 => write::relative::write(image, marks, at, items),
         1 => write::relative::write_u16(image, marks, at, (v % 65536) as u16),
@@ -58,7 +58,7 @@ fn read(question: u8, line: &[u8], image: &[u8], marks: &[u8]) {
     }
 }
 
-fn number(question: u8, image: &[u8], marks: &[u8], at: RVA) -> Number {
+fn number(question: u8, image: &[u8], marks: &[u8], at: RVA) -> Result<u64, Refusal> {
     match question {
         9 => relative::read_u8(image, marks, at),
         10 => relative::read_u16(image, marks, at),
@@ -66,6 +66,6 @@ fn number(question: u8, image: &[u8], marks: &[u8], at: RVA) -> Number {
         12 => relative::read_u64(image, marks, at),
         13 => relative::read_pointer(image, marks, Arch::X32, at),
         14 => relative::read_pointer(image, marks, Arch::X64, at),
-        _ => Number::Refusal(0),
+        _ => Err(0),
     }
 }

@@ -2,7 +2,7 @@
 use crate::reads;
 use arch::{Arch, RVA};
 use aspace::sliced;
-use refusal::Number;
+use refusal::Refusal;
 
 pub(crate) fn sliced(line: &[u8], image: &[u8], marks: &[u8]) {
     let question = crate::asked(line);
@@ -27,7 +27,7 @@ pub(crate) fn sliced(line: &[u8], image: &[u8], marks: &[u8]) {
     }
 }
 
-fn number(question: u8, image: &[u8], marks: &[u8], start: RVA, at: RVA) -> Number {
+fn number(question: u8, image: &[u8], marks: &[u8], start: RVA, at: RVA) -> Result<u64, Refusal> {
     match question {
         9 => sliced::read_u8(image, marks, start, at),
         10 => sliced::read_u16(image, marks, start, at),
@@ -35,6 +35,6 @@ fn number(question: u8, image: &[u8], marks: &[u8], start: RVA, at: RVA) -> Numb
         12 => sliced::read_u64(image, marks, start, at),
         13 => sliced::read_pointer(image, marks, Arch::X32, start, at),
         14 => sliced::read_pointer(image, marks, Arch::X64, start, at),
-        _ => Number::Refusal(0),
+        _ => Err(0),
     }
 }

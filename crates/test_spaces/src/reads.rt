@@ -1,7 +1,7 @@
 // Bytes and strings that are read.
 use arch::{RVA, VA};
 use aspace::{absolute, relative, sliced};
-use refusal::Answer;
+use refusal::Refusal;
 use strings::Ascii;
 
 // Into a buffer of `room` bytes, each 0xEE before; `way` is even for `read_into` and odd for `read_bytes`.
@@ -53,7 +53,7 @@ fn into(
     image: &[u8],
     marks: &[u8],
     buf: &mut [u8],
-) -> Answer {
+) -> Result<(), Refusal> {
     match way {
         0 => relative::read_into(image, marks, at, buf),
         1 => relative::read_bytes(image, marks, at, n, buf),

@@ -1,4 +1,6 @@
 -- The ways through the choice of the output. Assumes nothing.
+use Rattle.refusal.specs.declared.Refusal.{Refusal}
+use Rattle.std.specs.Prelude.{Result, Ok, Err}
 use mathlib.Core.Path.{◌≡◌}
 use mathlib.Core.Bool.{Bool, true, false, ◌&&◌}
 use mathlib.Core.List.{List}
@@ -7,8 +9,6 @@ use lib.Dec.{leb}
 use lib.ListN.{length}
 use Rattle.util.specs.Pick.{pick}
 use Rattle.survey.specs.declared.answer.Counts.{Counts}
-use Rattle.survey.specs.declared.answer.Survey.{Survey}
-use Rattle.survey.specs.declared.answer.Survey.TheVariants as survey
 use Rattle.survey.specs.Survey.{survey_of}
 use Rattle.verdict.specs.declared.answer.Verdict.{Verdict}
 use Rattle.verdict.specs.declared.answer.Verdict.TheVariants.{TooLarge, Refused, Lines}
@@ -21,12 +21,12 @@ unfolding fits
 fits_is c r x y e d w = rw (← w, ← d) e
 
 -- ---- survey's answer
-module _ (s : Survey) where
-  pub says_refused : (n : ℕ) → s ≡ survey.Refused n → Refused n ≡ verdict_by s
+module _ (s : Result Counts Refusal) where
+  pub says_refused : (n : ℕ) → s ≡ Err n → Refused n ≡ verdict_by s
   unfolding verdict_by
   says_refused n e = rw e
 
-  module _ (c : Counts) (is : s ≡ survey.Accepted c) (b : Bool) (fit : b ≡ fits c) where
+  module _ (c : Counts) (is : s ≡ Ok c) (b : Bool) (fit : b ≡ fits c) where
     pub says_lines : b ≡ true → Lines c ≡ verdict_by s
     unfolding verdict_by pick
     says_lines e = rw (is, ← fit, e)
@@ -43,7 +43,7 @@ module _ (f : List ℕ) where
   unfolding verdict_of pick
   too_long e = rw e
 
-  pub not_long : (s : Survey) (r : Verdict) → leb (length f) MOST_BYTES ≡ true → s ≡ survey_of f → r ≡ verdict_by s → r ≡ verdict_of f
+  pub not_long : (s : Result Counts Refusal) (r : Verdict) → leb (length f) MOST_BYTES ≡ true → s ≡ survey_of f → r ≡ verdict_by s → r ≡ verdict_of f
   unfolding verdict_of pick
   not_long s r e q x = rw (e, ← q) x
 

@@ -1,10 +1,9 @@
 -- Which of its three outputs the program prints for a file (01, "A small object"): over 16,384 bytes `too large`, whatever they are; else the refusal;
 -- else, over one of the four other limits, `too large`; else the lines.
-use Rattle.std.specs.Prelude.{Bool, ◌&&◌, List, ℕ, leb, length}
+use Rattle.refusal.specs.declared.Refusal.{Refusal}
+use Rattle.std.specs.Prelude.{Bool, ◌&&◌, List, ℕ, leb, length, Result, Ok, Err}
 use Rattle.util.specs.Pick.{pick}
 use Rattle.survey.specs.declared.answer.Counts.{Counts}
-use Rattle.survey.specs.declared.answer.Survey.{Survey}
-use Rattle.survey.specs.declared.answer.Survey.TheVariants as survey
 use Rattle.survey.specs.Survey.{survey_of}
 use Rattle.verdict.specs.declared.answer.Verdict.{Verdict}
 use Rattle.verdict.specs.declared.answer.Verdict.TheVariants.{TooLarge, Refused, Lines}
@@ -39,9 +38,9 @@ fits c =
     && leb c.relocations MOST_RELOCATIONS))
 
 -- by survey's answer
-unfoldable pub verdict_by : Survey → Verdict
-verdict_by (survey.Refused n) = Refused n
-verdict_by (survey.Accepted c) = pick (fits c) (Lines c) TooLarge
+unfoldable pub verdict_by : Result Counts Refusal → Verdict
+verdict_by (Err n) = Refused n
+verdict_by (Ok c) = pick (fits c) (Lines c) TooLarge
 
 -- by the file: its size comes before everything
 unfoldable pub verdict_of : List ℕ → Verdict

@@ -32,12 +32,12 @@ pub fn verdict(f: &[u8]) -> Verdict
     }
 }
 
-fn verdict_by(s: Survey) -> Verdict
+fn verdict_by(s: Result<Counts, Refusal>) -> Verdict
     ensures { result ≡ verdict_by s }
 {
     match s {
-        Survey::Refused(n) => Verdict::Refused(n),
-        Survey::Accepted(c) => {
+        Err(n) => Verdict::Refused(n),
+        Ok(c) => {
             if fits(c) {
                 Verdict::Lines(c)
             } else {

@@ -1,4 +1,6 @@
 -- The ways through the writers. Assumes nothing.
+use Rattle.refusal.specs.Refusal.{Code}
+use Rattle.std.specs.Prelude.{Ok, Err}
 use mathlib.Core.Path.{◌≡◌}
 use mathlib.Core.Bool.{Bool, true, false}
 use mathlib.Core.List.{List}
@@ -8,7 +10,6 @@ use lib.Dec.{leb}
 use lib.ListN.{length}
 use Rattle.util.specs.Pick.{pick}
 use Rattle.le.specs.Le.{splice}
-use Rattle.refusal.specs.declared.Answer.{Answer}
 use Rattle.refusal.specs.Refusal.{Leaves}
 use Rattle.pagemap.specs.Pages.{storage_ok, span_mapped}
 use Rattle.aspace.specs.Space.{offset_at}
@@ -44,6 +45,6 @@ module _ (image marks : List ℕ) (base a n o : ℕ) (fits : length image * 1 < 
   there_written : write_code (length image) marks o n ≡ 0 → o ≡ a - base
   there_written e = offset_there (length image) marks base a n o (omega arith) is (write_span (length image) marks o n e)
 
-  pub write_at : (v x : List ℕ) (r : Answer) → Leaves (write_code (length image) marks o n) image (splice image o v) x r
+  pub write_at : (v x : List ℕ) (r : Code) → Leaves (write_code (length image) marks o n) image (splice image o v) x r
       → Leaves (write_code_at (length image) marks base a n) image (splice image (a - base) v) x r
   write_at v x r l = rw (← write_by) (leaves_same _ image (splice image o v) (splice image (a - base) v) x r (λ z. rw (there_written z)) l)

@@ -1,10 +1,10 @@
 -- What holds of a write, as later layers ask it.
-use Rattle.std.specs.Prelude.{◌≡◌, true, List, ◌⊎◌, ℕ, ◌+◌, ◌≤◌, ◌<◌, ◌^◌, max, length, get_or, leb}
+use Rattle.refusal.specs.declared.Refusal.{Refusal}
+use Rattle.std.specs.Prelude.{◌≡◌, true, List, ◌⊎◌, ℕ, ◌+◌, ◌≤◌, ◌<◌, ◌^◌, max, length, get_or, leb, Result, Ok, Err}
 use Rattle.std.proofs.Common.{⊎_elim, arith}
 use Rattle.util.specs.Pick.{pick, head_passes, rest_passes}
 use Rattle.le.specs.Le.{le, part, splice, length_splice, splice_below, splice_above, part_splice, get_splice}
-use Rattle.refusal.specs.declared.Number.TheVariants.{Value}
-use Rattle.refusal.specs.Refusal.{number_of}
+use Rattle.refusal.specs.Refusal.{answer_of}
 use Rattle.pagemap.specs.Pages.{storage_ok, span_mapped, read_code}
 use Rattle.pagemap.specs.PageLaws.{span_in_lem}
 use Rattle.aspace.specs.Space.{read_number}
@@ -46,8 +46,8 @@ written_outside image v o k h = ⊎_elim (λ p. splice_below image o v k p) (λ 
 
 -- a number of n bytes that was written is read back
 pub written_number : (n v : ℕ) (image marks : List ℕ) (o : ℕ) → write_code (length image) marks o n ≡ 0 → v < 256 ^ n
-    → read_number n (splice image o (le n v)) marks o ≡ Value v
-unfolding read_number number_of
+    → read_number n (splice image o (le n v)) marks o ≡ Ok v
+unfolding read_number answer_of
 written_number n v image marks o e h =
     rw (length_splice, write_read (length image) marks o n e, get_splice n v image o (write_in (length image) marks o n e) h)
 

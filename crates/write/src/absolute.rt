@@ -7,10 +7,10 @@ ghost use Rattle.write.specs.Write.{write_code_at};
 use crate::relative;
 use arch::VA;
 use aspace::absolute::offset_at;
-use refusal::Answer;
+use refusal::Refusal;
 
 // At most 4,096 bytes at `addr`; they may cross one page end, and are written only if all their pages are mapped.
-pub fn write(image: &mut [u8], marks: &[u8], base: VA, addr: VA, v: &[u8]) -> Answer
+pub fn write(image: &mut [u8], marks: &[u8], base: VA, addr: VA, v: &[u8]) -> Result<(), Refusal>
     ensures { Leaves (write_code_at (length image.old) marks.now base.0 addr.0 (length v.now))
         image.old (splice image.old (addr.0 - base.0) v.now) image.new result }
 {
@@ -18,7 +18,7 @@ pub fn write(image: &mut [u8], marks: &[u8], base: VA, addr: VA, v: &[u8]) -> An
 }
 
 // A number of 2 bytes, and one of 4.
-pub fn write_u16(image: &mut [u8], marks: &[u8], base: VA, addr: VA, v: u16) -> Answer
+pub fn write_u16(image: &mut [u8], marks: &[u8], base: VA, addr: VA, v: u16) -> Result<(), Refusal>
     ensures { Leaves (write_code_at (length image.old) marks.now base.0 addr.0 2)
         image.old (splice image.old (addr.0 - base.0) (le 2 v)) image.new result }
 {
@@ -26,7 +26,7 @@ pub fn write_u16(image: &mut [u8], marks: &[u8], base: VA, addr: VA, v: u16) -> 
 }
 
 // Four bytes.
-pub fn write_u32(image: &mut [u8], marks: &[u8], base: VA, addr: VA, v: u32) -> Answer
+pub fn write_u32(image: &mut [u8], marks: &[u8], base: VA, addr: VA, v: u32) -> Result<(), Refusal>
     ensures { Leaves (write_code_at (length image.old) marks.now base.0 addr.0 4)
         image.old (splice image.old (addr.0 - base.0) (le 4 v)) image.new result }
 {
@@ -34,7 +34,7 @@ pub fn write_u32(image: &mut [u8], marks: &[u8], base: VA, addr: VA, v: u32) -> 
 }
 
 // A signed number, in two's complement.
-pub fn write_i32(image: &mut [u8], marks: &[u8], base: VA, addr: VA, v: u32) -> Answer
+pub fn write_i32(image: &mut [u8], marks: &[u8], base: VA, addr: VA, v: u32) -> Result<(), Refusal>
     ensures { Leaves (write_code_at (length image.old) marks.now base.0 addr.0 4)
         image.old (splice image.old (addr.0 - base.0) (le 4 v)) image.new result }
 {
@@ -42,7 +42,7 @@ pub fn write_i32(image: &mut [u8], marks: &[u8], base: VA, addr: VA, v: u32) -> 
 }
 
 // A number of 8 bytes.
-pub fn write_u64(image: &mut [u8], marks: &[u8], base: VA, addr: VA, v: u64) -> Answer
+pub fn write_u64(image: &mut [u8], marks: &[u8], base: VA, addr: VA, v: u64) -> Result<(), Refusal>
     ensures { Leaves (write_code_at (length image.old) marks.now base.0 addr.0 8)
         image.old (splice image.old (addr.0 - base.0) (le 8 v)) image.new result }
 {
@@ -50,7 +50,7 @@ pub fn write_u64(image: &mut [u8], marks: &[u8], base: VA, addr: VA, v: u64) -> 
 }
 
 // A signed number, in two's complement.
-pub fn write_i64(image: &mut [u8], marks: &[u8], base: VA, addr: VA, v: u64) -> Answer
+pub fn write_i64(image: &mut [u8], marks: &[u8], base: VA, addr: VA, v: u64) -> Result<(), Refusal>
     ensures { Leaves (write_code_at (length image.old) marks.now base.0 addr.0 8)
         image.old (splice image.old (addr.0 - base.0) (le 8 v)) image.new result }
 {

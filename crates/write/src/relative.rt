@@ -6,7 +6,7 @@ ghost use Rattle.write.specs.Write.{write_code};
 
 use crate::MAX_WRITE;
 use arch::RVA;
-use refusal::{Answer, NOT_MAPPED, STORAGE, TOO_LONG};
+use refusal::Refusal;
 
 // The refusal of writing n bytes at `o`, or 0.
 fn write_code(size: u64, marks: &[u8], o: RVA, n: u64) -> u64
@@ -18,46 +18,46 @@ fn write_code(size: u64, marks: &[u8], o: RVA, n: u64) -> u64
             if pagemap::span_mapped(size, marks, o, n) {
                 0
             } else {
-                NOT_MAPPED
+                Refusal::NotMapped
             }
         } else {
-            TOO_LONG
+            Refusal::TooLong
         }
     } else {
-        STORAGE
+        Refusal::Storage
     }
 }
 
 // At most 4,096 bytes at `addr`; they may cross one page end, and are written only if all their pages are mapped.
-pub fn write(image: &mut [u8], marks: &[u8], addr: RVA, v: &[u8]) -> Answer
+pub fn write(image: &mut [u8], marks: &[u8], addr: RVA, v: &[u8]) -> Result<(), Refusal>
     ensures { Leaves (write_code (length image.old) marks.now addr.0 (length v.now))
         image.old (splice image.old addr.0 v.now) image.new result }
 {
     let code = write_code(image.len() as u64, marks, addr, v.len() as u64);
     if code == 0 {
         le::copy(image, addr.0 as usize, v);
-        Answer::Done
+        Ok(())
     } else {
-        Answer::Refused(code)
+        Err(code)
     }
 }
 
 // The n low bytes of v.
-fn write_number(image: &mut [u8], marks: &[u8], addr: RVA, n: usize, v: u64) -> Answer
+fn write_number(image: &mut [u8], marks: &[u8], addr: RVA, n: usize, v: u64) -> Result<(), Refusal>
     ensures { Leaves (write_code (length image.old) marks.now addr.0 n)
         image.old (splice image.old addr.0 (le n v)) image.new result }
 {
     let code = write_code(image.len() as u64, marks, addr, n as u64);
     if code == 0 {
         le::put(image, addr.0 as usize, n, v);
-        Answer::Done
+        Ok(())
     } else {
-        Answer::Refused(code)
+        Err(code)
     }
 }
 
 // A number of 2 bytes, and one of 4.
-pub fn write_u16(image: &mut [u8], marks: &[u8], addr: RVA, v: u16) -> Answer
+pub fn write_u16(image: &mut [u8], marks: &[u8], addr: RVA, v: u16) -> Result<(), Refusal>
     ensures { Leaves (write_code (length image.old) marks.now addr.0 2)
         image.old (splice image.old addr.0 (le 2 v)) image.new result }
 {
@@ -65,7 +65,7 @@ pub fn write_u16(image: &mut [u8], marks: &[u8], addr: RVA, v: u16) -> Answer
 }
 
 // Four bytes.
-pub fn write_u32(image: &mut [u8], marks: &[u8], addr: RVA, v: u32) -> Answer
+pub fn write_u32(image: &mut [u8], marks: &[u8], addr: RVA, v: u32) -> Result<(), Refusal>
     ensures { Leaves (write_code (length image.old) marks.now addr.0 4)
         image.old (splice image.old addr.0 (le 4 v)) image.new result }
 {
@@ -73,7 +73,7 @@ pub fn write_u32(image: &mut [u8], marks: &[u8], addr: RVA, v: u32) -> Answer
 }
 
 // A signed number, in two's complement.
-pub fn write_i32(image: &mut [u8], marks: &[u8], addr: RVA, v: u32) -> Answer
+pub fn write_i32(image: &mut [u8], marks: &[u8], addr: RVA, v: u32) -> Result<(), Refusal>
     ensures { Leaves (write_code (length image.old) marks.now addr.0 4)
         image.old (splice image.old addr.0 (le 4 v)) image.new result }
 {
@@ -81,7 +81,7 @@ pub fn write_i32(image: &mut [u8], marks: &[u8], addr: RVA, v: u32) -> Answer
 }
 
 // A number of 8 bytes.
-pub fn write_u64(image: &mut [u8], marks: &[u8], addr: RVA, v: u64) -> Answer
+pub fn write_u64(image: &mut [u8], marks: &[u8], addr: RVA, v: u64) -> Result<(), Refusal>
     ensures { Leaves (write_code (length image.old) marks.now addr.0 8)
         image.old (splice image.old addr.0 (le 8 v)) image.new result }
 {
@@ -89,7 +89,7 @@ pub fn write_u64(image: &mut [u8], marks: &[u8], addr: RVA, v: u64) -> Answer
 }
 
 // A signed number, in two's complement.
-pub fn write_i64(image: &mut [u8], marks: &[u8], addr: RVA, v: u64) -> Answer
+pub fn write_i64(image: &mut [u8], marks: &[u8], addr: RVA, v: u64) -> Result<(), Refusal>
     ensures { Leaves (write_code (length image.old) marks.now addr.0 8)
         image.old (splice image.old addr.0 (le 8 v)) image.new result }
 {
