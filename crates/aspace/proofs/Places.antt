@@ -1,20 +1,18 @@
 -- The ways through the offsets of places and through the readers, as the code asks them.
-use Rattle.refusal.specs.declared.Refusal.{Refusal}
-use Rattle.refusal.specs.declared.Refusal.TheVariants.{Storage, NotMapped}
-use Rattle.std.specs.Prelude.{◌≡◌, refl, Bool, true, false, ◌&&◌, not, List, ℕ, zero, suc, ◌+◌, ◌-◌, ◌^◌, ◌<◌, ◌≤◌, max, length, get_or, leb, ltb, Option, Some, None, Result, Ok, Err, ok_or, IsNone}
-use Rattle.std.proofs.Common.{sym, ap, ◌∙◌, arith, le-leb, add-suc, suc-add, add-zero, zero-add}
+use Rattle.std.specs.Prelude.{◌≡◌, refl, Bool, true, false, ◌&&◌, not, List, ℕ, zero, suc, ◌+◌, ◌-◌, ◌^◌, ◌<◌, ◌≤◌, max, length, get_or, take, drop, leb, ltb, Option, Some, None}
+use Rattle.std.proofs.Common.{sym, ap, ◌∙◌, arith, le-leb, suc-add, zero-add}
 use Rattle.std.proofs.lemmas.Bool.{lt-leb, not-true, not-false}
 use Rattle.std.proofs.Math.Bool.{and-false}
 use Rattle.std.proofs.lemmas.List.{get_or_past}
-use Rattle.util.specs.Pick.{pick}
+use Rattle.util.specs.Pick.{pick, and_right}
 use Rattle.arch.specs.declared.RVA.{RVA}
 use Rattle.arch.specs.Address.{rva, offset_of}
-use Rattle.le.specs.Le.{get, part, splice, get_same, length_part, part_at, part_most}
-use Rattle.refusal.specs.Refusal.{Code, PASSES, NOT_MAPPED, STORAGE, answer_of, unless_refused, Leaves}
+use Rattle.le.specs.Le.{get, part, get_same, part_at, part_most}
+use Rattle.refusal.specs.Refusal.{Code, PASSES, NOT_MAPPED, STORAGE}
 use Rattle.pagemap.specs.Pages.{storage_ok, span_mapped}
 use Rattle.pagemap.specs.PageLaws.{span_in_lem}
 use Rattle.aspace.specs.Space.{reached}
-use Rattle.aspace.specs.Places.{span_there, read_code_there, read_number_there, bytes_code_there}
+use Rattle.aspace.specs.Places.{span_there, read_code_there}
 
 -- ---- an address: below the base; past 64 bits; reached
 module _ (base a n : ℕ) (x : Option RVA) (e : x ≡ offset_of base a) where
@@ -73,70 +71,45 @@ pub ruleset finds = (found_out, found_in, found_no)
 
 -- ---- they may be read, or not
 module _ (r : Bool) (size : ℕ) (marks : List ℕ) (o n : ℕ) (ok : Bool) (is : ok ≡ storage_ok size (length marks)) where
-  pub read_bad : ok ≡ false → Err Storage ≡ answer_of (read_code_there r size marks o n) (rva o)
-  unfolding read_code_there pick answer_of
+  pub read_bad : ok ≡ false → read_code_there r size marks o n ≡ STORAGE
+  unfolding read_code_there pick
   read_bad e = rw (← is, e)
 
-  read_by : (t : Bool) → ok_or (pick t (Some (rva o)) None) NotMapped ≡ answer_of (pick t (Ok tt) (Err NotMapped)) (rva o)
-  unfolding pick answer_of
-  read_by true = refl
-  read_by false = refl
-
-  pub read_found : (x : Option RVA) (y : Result RVA Refusal) → ok ≡ true → x ≡ pick (span_there r size marks o n) (Some (rva o)) None → y ≡ ok_or x NotMapped
-      → y ≡ answer_of (read_code_there r size marks o n) (rva o)
-  unfolding read_code_there pick
-  read_found x y e q d = rw (← is, e) (d ∙ rw q (read_by (span_there r size marks o n)))
-
-pub ruleset reads = (read_bad, read_found)
-
--- ---- what the answer says of the code
-module _ (code : Code) (v : RVA) (x : Result RVA Refusal) (e : x ≡ answer_of code v) where
-  err_by : (c : Code) (k : Refusal) → answer_of c v ≡ Err k → c ≡ Err k
-  unfolding answer_of
-  err_by (Ok u) k h = cc
-  err_by (Err l) k h = cc
-
-  ok_by : (c : Code) (p : RVA) → answer_of c v ≡ Ok p → (c ≡ PASSES) × (p ≡ v)
-  unfolding answer_of
-  ok_by (Ok u) p h = (refl, cc)
-  ok_by (Err l) p h = cc
-
-  pub code_err : (k : Refusal) → x ≡ Err k → code ≡ Err k
-  code_err k h = err_by code k (sym e ∙ h)
-
-  pub code_ok : (p : RVA) → x ≡ Ok p → (code ≡ PASSES) × (p ≡ v)
-  code_ok p h = ok_by code p (sym e ∙ h)
-
--- bytes that may be read lie within the image
-module _ (r : Bool) (size : ℕ) (marks : List ℕ) (o n : ℕ) where
-  inner_by : (s t : Bool) → pick (s && t) PASSES NOT_MAPPED ≡ PASSES → t ≡ true
+  there_by : (p : RVA) (t : Bool) → pick t (Some (rva o)) None ≡ Some p → (t ≡ true) × (p ≡ rva o)
   unfolding pick
-  inner_by true true h = refl
-  inner_by true false h = cc
-  inner_by false t h = cc
+  there_by p true h = (refl, cc)
+  there_by p false h = cc
 
-  outer_by : (s : Bool) (a : Code) → pick s a STORAGE ≡ PASSES → a ≡ PASSES
+  there_none : (t : Bool) → pick t (Some (rva o)) None ≡ None → t ≡ false
   unfolding pick
-  outer_by true a h = h
-  outer_by false a h = cc
+  there_none true h = cc
+  there_none false h = refl
 
-  pub read_within : read_code_there r size marks o n ≡ PASSES → o + max n 1 ≤ size
-  unfolding read_code_there span_there
-  read_within e =
-      span_in_lem size marks o n (inner_by r (span_mapped size marks o n) (outer_by (storage_ok size (length marks)) (pick (r && span_mapped size marks o n) PASSES NOT_MAPPED) e))
+  module _ (x : Option RVA) (yes : ok ≡ true) (e : x ≡ pick (span_there r size marks o n) (Some (rva o)) None) where
+    pub read_nowhere : x ≡ None → read_code_there r size marks o n ≡ NOT_MAPPED
+    unfolding read_code_there pick
+    read_nowhere h = rw (← is, yes, there_none (span_there r size marks o n) (sym e ∙ h))
 
-  -- as the answer of the reader's check says it
-  module _ (x : Result RVA Refusal) (e : x ≡ answer_of (read_code_there r size marks o n) (rva o)) (p : RVA) (h : x ≡ Ok p) where
-    pub read_inside : p.0 + n ≤ size
-    read_inside = let k = code_ok (read_code_there r size marks o n) (rva o) x e p h in let w = read_within k.0 in let q : p.0 ≡ o = ap (λ (z : RVA). z.0) k.1 in omega arith
+    pub read_there : (p : RVA) → x ≡ Some p → read_code_there r size marks o n ≡ PASSES
+    unfolding read_code_there pick
+    read_there p h = rw (← is, yes, (there_by p (span_there r size marks o n) (sym e ∙ h)).0)
 
-pub leaves_err : {A : Type 0} (code : Code) (v : RVA) (x : Result RVA Refusal) (k : Refusal) (old new : A) (y : Code) → x ≡ answer_of code v → x ≡ Err k → y ≡ Err k → Leaves code old new old y
-unfolding unless_refused
-leaves_err code v x k old new y e h q = let z = code_err code v x e k h in record { says = q ∙ sym z; leaves = rw z }
+    pub read_at : (p : RVA) → x ≡ Some p → p ≡ rva o
+    read_at p h = (there_by p (span_there r size marks o n) (sym e ∙ h)).1
 
-pub leaves_ok : {A : Type 0} (code : Code) (v : RVA) (x : Result RVA Refusal) (p : RVA) (old new y : A) → x ≡ answer_of code v → x ≡ Ok p → (p ≡ v → y ≡ new) → Leaves code old new y (Ok tt)
-unfolding unless_refused
-leaves_ok code v x p old new y e h q = let z = code_ok code v x e p h in record { says = sym z.0; leaves = rw z.0 (q z.1) }
+    -- and they lie within the image
+    pub read_inside : (p : RVA) → x ≡ Some p → p.0 + n ≤ size
+    unfolding span_there
+    read_inside p h =
+        let k = there_by p (span_there r size marks o n) (sym e ∙ h) in
+        let w = span_in_lem size marks o n (and_right r (span_mapped size marks o n) k.0) in
+        let q : p.0 ≡ o = ap (λ (z : RVA). z.0) k.1 in
+        omega arith
+
+-- the part that is lent
+pub part_there : (l s : List ℕ) (i n o : ℕ) → s ≡ take (i + n - i) (drop i l) → i ≡ o → s ≡ part l o n
+unfolding part
+part_there l s i n o e q = let z : i + n - i ≡ n = omega arith in rw (z, q) at e
 
 -- ---- a number of fewer bytes is one of eight whose last are 0
 get_none : (n : ℕ) (l : List ℕ) (i : ℕ) → length l ≤ i → get n l i ≡ 0

@@ -1,11 +1,10 @@
 // Reading at any place.
-ghost use Rattle.std.specs.Prelude.{◌≡◌, ◌≤◌, ◌&&◌, length};
+ghost use Rattle.std.specs.Prelude.{◌≡◌, ◌≤◌, length, IfOk, IfErr};
 ghost use Rattle.util.specs.Pick.{pick};
 ghost use Rattle.arch.specs.Address.{rva};
 ghost use Rattle.arch.specs.Machine.{pointer_size};
 ghost use Rattle.le.specs.Le.{part, splice};
-ghost use Rattle.refusal.specs.Refusal.{answer_of, Leaves};
-ghost use Rattle.pagemap.specs.Pages.{span_mapped};
+ghost use Rattle.refusal.specs.Refusal.{PASSES, Leaves};
 ghost use Rattle.aspace.specs.Places.{span_there, read_code_there, read_number_there, bytes_code_there};
 
 use crate::Place;
@@ -25,15 +24,21 @@ pub fn find<P: Place>(size: u64, marks: &[u8], at: P, n: u64) -> Option<RVA>
     }
 }
 
-// The offset of n bytes there that may be read, or why they may not.
-#[tactic(auto, using(crate::proofs::Places::reads))]
-fn readable<P: Place>(size: u64, marks: &[u8], at: P, n: u64) -> Result<RVA, Refusal>
-    ensures { result ≡ answer_of (read_code_there (P.reaches at n) size marks.now (P.start at) n) (rva (P.start at)) }
+// The n bytes there, or why they may not be read.
+fn bytes<'a, P: Place>(image: &'a [u8], marks: &[u8], at: P, n: usize) -> Result<&'a [u8], Refusal>
+    ensures read { IfOk result (λ s. (read_code_there (P.reaches at n) (length image.now) marks.now (P.start at) n ≡ PASSES)
+        × (s.now ≡ part image.now (P.start at) n) × (length s.now ≡ n)) }
+    ensures refused { IfErr result (λ r. read_code_there (P.reaches at n) (length image.now) marks.now (P.start at) n ≡ Err r) }
 {
+    let size = image.len() as u64;
     if !pagemap::storage_ok(size, marks.len() as u64) {
         return Err(Refusal::Storage);
     }
-    find(size, marks, at, n).ok_or(Refusal::NotMapped)
+    let Some(offset) = find(size, marks, at, n as u64) else {
+        return Err(Refusal::NotMapped);
+    };
+    let from = offset.0 as usize;
+    Ok(&image[from..from + n])
 }
 
 // The bytes from there on, as many as `buf` takes.
@@ -41,9 +46,7 @@ pub fn read_into<P: Place>(image: &[u8], marks: &[u8], at: P, buf: &mut [u8]) ->
     ensures { Leaves (read_code_there (P.reaches at (length buf.old)) (length image.now) marks.now (P.start at) (length buf.old))
         buf.old (part image.now (P.start at) (length buf.old)) buf.new result }
 {
-    let n = buf.len();
-    let from = readable(image.len() as u64, marks, at, n as u64)?.0 as usize;
-    buf.copy_from_slice(&image[from..from + n]);
+    buf.copy_from_slice(bytes(image, marks, at, buf.len())?);
     Ok(())
 }
 
@@ -52,8 +55,7 @@ pub fn read_number<const N: usize, P: Place>(image: &[u8], marks: &[u8], at: P) 
     requires { N ≤ 8 }
     ensures { result ≡ read_number_there N (P.reaches at N) image.now marks.now (P.start at) }
 {
-    let from = readable(image.len() as u64, marks, at, N as u64)?.0 as usize;
-    Ok(le::u64_at(&image[from..from + N], 0))
+    Ok(le::u64_at(bytes(image, marks, at, N)?, 0))
 }
 
 // A number of the machine's pointer size.
@@ -74,7 +76,6 @@ pub fn read_bytes<P: Place>(image: &[u8], marks: &[u8], at: P, n: usize, out: &m
     if out.len() < n {
         return Err(Refusal::Storage);
     }
-    let from = readable(image.len() as u64, marks, at, n as u64)?.0 as usize;
-    le::copy(out, 0, &image[from..from + n]);
+    le::copy(out, 0, bytes(image, marks, at, n)?);
     Ok(())
 }
