@@ -1,18 +1,19 @@
 -- The ways through the offsets of places and through the readers, as the code asks them.
-use Rattle.std.specs.Prelude.{◌≡◌, refl, Bool, true, false, ◌&&◌, not, List, ℕ, zero, suc, ◌+◌, ◌-◌, ◌^◌, ◌<◌, ◌≤◌, max, length, get_or, take, drop, leb, ltb, Option, Some, None}
+use Rattle.refusal.specs.declared.Refusal.{Refusal}
+use Rattle.std.specs.Prelude.{◌≡◌, refl, Bool, true, false, List, ℕ, zero, suc, ◌+◌, ◌-◌, ◌^◌, ◌<◌, ◌≤◌, max, length, get_or, Result, Ok, Err, take, drop, leb, ltb, Option, Some, None}
 use Rattle.std.proofs.Common.{sym, ap, ◌∙◌, arith, le-leb, suc-add, zero-add}
-use Rattle.std.proofs.lemmas.Bool.{lt-leb, not-true, not-false}
+use Rattle.std.proofs.lemmas.Bool.{lt-leb}
 use Rattle.std.proofs.Math.Bool.{and-false}
 use Rattle.std.proofs.lemmas.List.{get_or_past}
 use Rattle.util.specs.Pick.{pick, and_right}
 use Rattle.arch.specs.declared.RVA.{RVA}
 use Rattle.arch.specs.Address.{rva, offset_of}
 use Rattle.le.specs.Le.{get, part, get_same, part_at, part_most}
-use Rattle.refusal.specs.Refusal.{Code, PASSES, NOT_MAPPED, STORAGE}
+use Rattle.refusal.specs.Refusal.{Code, PASSES, NOT_MAPPED, STORAGE, answer_of, unless_refused, Leaves}
 use Rattle.pagemap.specs.Pages.{storage_ok, span_mapped}
 use Rattle.pagemap.specs.PageLaws.{span_in_lem}
 use Rattle.aspace.specs.Space.{reached}
-use Rattle.aspace.specs.Places.{span_there, read_code_there}
+use Rattle.aspace.specs.Places.{span_there, read_code_there, bytes_code_there}
 
 -- ---- an address: below the base; past 64 bits; reached
 module _ (base a n : ℕ) (x : Option RVA) (e : x ≡ offset_of base a) where
@@ -106,10 +107,41 @@ module _ (r : Bool) (size : ℕ) (marks : List ℕ) (o n : ℕ) (ok : Bool) (is 
         let q : p.0 ≡ o = ap (λ (z : RVA). z.0) k.1 in
         omega arith
 
+pub ruleset reads = (read_bad, read_nowhere, read_there, read_at, read_inside)
+
 -- the part that is lent
-pub part_there : (l s : List ℕ) (i n o : ℕ) → s ≡ take (i + n - i) (drop i l) → i ≡ o → s ≡ part l o n
+pub part_there : (l : List ℕ) (i n o : ℕ) → i ≡ o → take (i + n - i) (drop i l) ≡ part l o n
 unfolding part
-part_there l s i n o e q = let z : i + n - i ≡ n = omega arith in rw (z, q) at e
+part_there l i n o q = let z : i + n - i ≡ n = omega arith in rw (z, q)
+
+-- ---- what a reader says and leaves, by the code
+module _ (code : Code) where
+  pub number_refused : (v : ℕ) (r : Refusal) (y : Result ℕ Refusal) → code ≡ Err r → y ≡ Err r → y ≡ answer_of code v
+  unfolding answer_of
+  number_refused v r y e q = rw e q
+
+  pub number_read : (v : ℕ) (y : ℕ) → code ≡ PASSES → y ≡ v → Ok y ≡ answer_of code v
+  unfolding answer_of
+  number_read v y e q = rw (e, q)
+
+  module _ (old new : List ℕ) where
+    pub leaves_kept : (r : Refusal) (y : Code) → code ≡ Err r → y ≡ Err r → Leaves code old new old y
+    unfolding unless_refused
+    leaves_kept r y e q = record { says = q ∙ sym e; leaves = rw e }
+
+    pub leaves_new : (x : List ℕ) → code ≡ PASSES → x ≡ new → Leaves code old new x (Ok tt)
+    unfolding unless_refused
+    leaves_new x e q = record { says = sym e; leaves = rw e q }
+
+-- with a buffer that is long enough, or short
+module _ (r : Bool) (size : ℕ) (marks : List ℕ) (o n room : ℕ) where
+  pub bytes_fit : n ≤ room → (code : Code) → read_code_there r size marks o n ≡ code → bytes_code_there r size marks o n room ≡ code
+  unfolding bytes_code_there pick
+  bytes_fit h code e = rw (le-leb n room h) e
+
+  pub bytes_short : room < n → bytes_code_there r size marks o n room ≡ STORAGE
+  unfolding bytes_code_there pick
+  bytes_short h = rw (lt-leb n room h)
 
 -- ---- a number of fewer bytes is one of eight whose last are 0
 get_none : (n : ℕ) (l : List ℕ) (i : ℕ) → length l ≤ i → get n l i ≡ 0

@@ -11,7 +11,9 @@ use arch::{RVA, VA};
 pub fn offset_at(base: VA, a: VA, n: u64) -> RVA
     ensures { result.0 ≡ offset_at base.0 a.0 n }
 {
-    Absolute { base, address: a }.offset(n).unwrap_or(RVA(u64::MAX))
+    Absolute { base, address: a }
+        .offset(n)
+        .unwrap_or(RVA(u64::MAX))
 }
 
 // All of n bytes from the address `a` are mapped at the base.

@@ -25,6 +25,7 @@ pub fn find<P: Place>(size: u64, marks: &[u8], at: P, n: u64) -> Option<RVA>
 }
 
 // The n bytes there, or why they may not be read.
+#[tactic(auto, using(crate::proofs::Places::reads))]
 fn bytes<'a, P: Place>(image: &'a [u8], marks: &[u8], at: P, n: usize) -> Result<&'a [u8], Refusal>
     ensures read { IfOk result (λ s. (read_code_there (P.reaches at n) (length image.now) marks.now (P.start at) n ≡ PASSES)
         × (s.now ≡ part image.now (P.start at) n) × (length s.now ≡ n)) }
@@ -51,7 +52,11 @@ pub fn read_into<P: Place>(image: &[u8], marks: &[u8], at: P, buf: &mut [u8]) ->
 }
 
 // The number of N bytes there.
-pub fn read_number<const N: usize, P: Place>(image: &[u8], marks: &[u8], at: P) -> Result<u64, Refusal>
+pub fn read_number<const N: usize, P: Place>(
+    image: &[u8],
+    marks: &[u8],
+    at: P,
+) -> Result<u64, Refusal>
     requires { N ≤ 8 }
     ensures { result ≡ read_number_there N (P.reaches at N) image.now marks.now (P.start at) }
 {
@@ -69,7 +74,13 @@ pub fn read_pointer<P: Place>(image: &[u8], marks: &[u8], arch: Arch, at: P) -> 
 }
 
 // `n` bytes from there on, to the front of `out`, which must have room for them (13).
-pub fn read_bytes<P: Place>(image: &[u8], marks: &[u8], at: P, n: usize, out: &mut [u8]) -> Result<(), Refusal>
+pub fn read_bytes<P: Place>(
+    image: &[u8],
+    marks: &[u8],
+    at: P,
+    n: usize,
+    out: &mut [u8],
+) -> Result<(), Refusal>
     ensures { Leaves (bytes_code_there (P.reaches at n) (length image.now) marks.now (P.start at) n (length out.old))
         out.old (splice out.old 0 (part image.now (P.start at) n)) out.new result }
 {
