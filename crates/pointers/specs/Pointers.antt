@@ -1,8 +1,8 @@
--- What a number that was read says as an answer; a refusal keeps its number.
+-- What a number that was read says as an address or an offset; a refusal stays what it is.
 use Rattle.arch.specs.declared.RVA.{RVA}
 use Rattle.arch.specs.declared.VA.{VA}
 use Rattle.refusal.specs.declared.Refusal.{Refusal}
-use Rattle.std.specs.Prelude.{Result, Ok, Err}
+use Rattle.std.specs.Prelude.{ℕ, Result, Ok, Err}
 use Rattle.arch.specs.Address.{va, rva}
 
 -- as an address
