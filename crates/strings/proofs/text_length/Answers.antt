@@ -9,16 +9,18 @@ loop-i-init c = record { within = omega arith; same = text_begin _ _ _ }
 pub returns-then-not-is_text : goal.returns-then-not-is_text
 returns-then-not-is_text c =
     elim c.if-probe.branch [
-      then-probe w ↦ text_other _ _ _ _ w.is_text.result c.loop-i-test.true w.is_text.ensures (sym w.value-is ∙ c.if-not-is_text.true) c.loop-i.invariant.same
-    | else-probe w ↦ text_unmapped _ _ _ _ c.probe.result c.loop-i-test.true c.probe.ensures w.if-probe.false c.loop-i.invariant.same ]
+      | then-probe w ↦ text_other _ _ _ _ w.is_text.result c.loop-i-test.true w.is_text.ensures (sym w.value-is ∙ c.if-not-is_text.true) c.loop-i.invariant.same
+      | else-probe w ↦ text_unmapped _ _ _ _ c.probe.result c.loop-i-test.true c.probe.ensures w.if-probe.false c.loop-i.invariant.same
+    ]
 
 pub loop-i-preserved : goal.loop-i-preserved
 loop-i-preserved c = record {
   within = omega arith;
   same =
-    elim c.if-probe.branch [
-      then-probe w ↦ text_more _ _ _ _ c.probe.result w.is_text.result c.loop-i-test.true c.probe.ensures w.if-probe.true w.is_text.ensures (sym w.value-is ∙ c.if-not-is_text.false) c.loop-i.auto.i c.loop-i.invariant.same
-    | else-probe w ↦ cc ];
+      elim c.if-probe.branch [
+        | then-probe w ↦ text_more _ _ _ _ c.probe.result w.is_text.result c.loop-i-test.true c.probe.ensures w.if-probe.true w.is_text.ensures (sym w.value-is ∙ c.if-not-is_text.false) c.loop-i.auto.i c.loop-i.invariant.same
+        | else-probe w ↦ cc
+      ];
 }
 
 pub returns : goal.returns
