@@ -135,6 +135,13 @@ module _ (l : List ℕ) (at n v : ℕ) where
   pub number_put : (b x : List ℕ) → x ≡ bytes_low_first 0 n v → b ≡ splice l at x → b ≡ splice l at (le n v)
   number_put b x e d = d ∙ ap (splice l at) (e ∙ bytes_are n v)
 
+  -- where all of them fit
+  pub number_set : (x : List ℕ) → at + n ≤ length l → x ≡ bytes_low_first 0 n v → put_mid at (at + n - at) l x ≡ splice l at (le n v)
+  number_set x h e =
+      let q : x ≡ le n v = e ∙ bytes_are n v in
+      let t : length x ≡ n = rw q (length_le n v) in
+      array_put l at x at n (omega arith) t (omega arith) ∙ ap (splice l at) q
+
   -- n of its bytes: those that it has, and zeros, as far as an address reaches
   pub low_bytes_put : (x b c : List ℕ) (k j : ℕ) → v < 2 ^ 64 → length l < 2 ^ 64 → x ≡ bytes_low_first 0 8 v → k ≡ min n 8 → b ≡ splice l at (take k x)
       → j ≡ min (at + 8) (2 ^ 64 - 1) → c ≡ splice b j (replicate (n - 8) 0) → c ≡ splice l at (le n v)
