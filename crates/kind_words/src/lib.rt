@@ -1,17 +1,15 @@
 // Document 01's words for kinds of symbols, places and kinds of relocations, put into a lent buffer.
 #![tactic(auto)]
 
-ghost use Rattle.std.specs.Prelude.{◌≡◌};
 ghost use Rattle.kinds.specs.Words.{kind_word, place_word, relocation_kind_word};
-ghost use Rattle.text.specs.Text.{Puts};
+ghost use Rattle.text.specs.Text.{Wrote};
 
 use kinds::{Place, RelocationKind, SymbolKind};
 use text::Writer;
 
 // The word of a symbol kind.
 pub fn put_kind(w: &mut Writer, kind: SymbolKind)
-    ensures same { w.new.out.ghost_name ≡ w.old.out.ghost_name }
-    ensures puts { Puts w.old.out.now w.old.at (kind_word kind) w.new.out.now w.new.at }
+    ensures { Wrote w.old (kind_word kind) w.new }
 {
     let word: &[u8] = match kind {
         SymbolKind::Unknown => b"unknown",
@@ -26,8 +24,7 @@ pub fn put_kind(w: &mut Writer, kind: SymbolKind)
 
 // The word of a place.
 pub fn put_place(w: &mut Writer, place: Place)
-    ensures same { w.new.out.ghost_name ≡ w.old.out.ghost_name }
-    ensures puts { Puts w.old.out.now w.old.at (place_word place) w.new.out.now w.new.at }
+    ensures { Wrote w.old (place_word place) w.new }
 {
     let word: &[u8] = match place {
         Place::In(_) => b"section",
@@ -42,8 +39,7 @@ pub fn put_place(w: &mut Writer, place: Place)
 
 // The word of a relocation kind.
 pub fn put_relocation_kind(w: &mut Writer, kind: RelocationKind)
-    ensures same { w.new.out.ghost_name ≡ w.old.out.ghost_name }
-    ensures puts { Puts w.old.out.now w.old.at (relocation_kind_word kind) w.new.out.now w.new.at }
+    ensures { Wrote w.old (relocation_kind_word kind) w.new }
 {
     let word: &[u8] = match kind {
         RelocationKind::Absolute => b"absolute",

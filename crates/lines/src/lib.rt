@@ -1,9 +1,9 @@
 // The lines of document 01's program, each put into a lent buffer.
 #![tactic(auto)]
 
-ghost use Rattle.std.specs.Prelude.{◌≡◌, ◌++◌};
+ghost use Rattle.std.specs.Prelude.{◌++◌};
 ghost use Rattle.kinds.specs.Words.{kind_word};
-ghost use Rattle.text.specs.Text.{decimal_text, word, Puts};
+ghost use Rattle.text.specs.Text.{decimal_text, word, Wrote};
 ghost use Rattle.lines.specs.Lines.{
   K_WORD,
   image_line,
@@ -25,8 +25,7 @@ use text::Writer;
 
 // Where the image is, and its pages.
 pub fn image_line(w: &mut Writer, base: VA, pages: u64)
-    ensures same { w.new.out.ghost_name ≡ w.old.out.ghost_name }
-    ensures puts { Puts w.old.out.now w.old.at (image_line base.0 pages) w.new.out.now w.new.at }
+    ensures { Wrote w.old (image_line base.0 pages) w.new }
 {
     w.hex_head(b"image ", base.0);
     w.text(b"pages ");
@@ -35,8 +34,7 @@ pub fn image_line(w: &mut Writer, base: VA, pages: u64)
 }
 
 fn section_places(w: &mut Writer, start: VA, end: VA, from: u64, to: u64)
-    ensures same { w.new.out.ghost_name ≡ w.old.out.ghost_name }
-    ensures puts { Puts w.old.out.now w.old.at (section_places start.0 end.0 from to) w.new.out.now w.new.at }
+    ensures { Wrote w.old (section_places start.0 end.0 from to) w.new }
 {
     w.hex_head(b"section ", start.0);
     w.hex_word(end.0);
@@ -54,8 +52,7 @@ pub fn section_line(
     allowed: u64,
     name: &[u8],
 )
-    ensures same { w.new.out.ghost_name ≡ w.old.out.ghost_name }
-    ensures puts { Puts w.old.out.now w.old.at (section_line start.0 end.0 from to allowed name.now) w.new.out.now w.new.at }
+    ensures { Wrote w.old (section_line start.0 end.0 from to allowed name.now) w.new }
 {
     section_places(w, start, end, from, to);
     w.permissions_word(allowed);
@@ -64,8 +61,7 @@ pub fn section_line(
 }
 
 fn kind_word(w: &mut Writer, kind: SymbolKind)
-    ensures same { w.new.out.ghost_name ≡ w.old.out.ghost_name }
-    ensures puts { Puts w.old.out.now w.old.at (word (kind_word kind)) w.new.out.now w.new.at }
+    ensures { Wrote w.old (word (kind_word kind)) w.new }
 {
     put_kind(w, kind);
     w.byte(b' ');
@@ -73,8 +69,7 @@ fn kind_word(w: &mut Writer, kind: SymbolKind)
 
 // A listed symbol.
 pub fn symbol_line(w: &mut Writer, address: VA, kind: SymbolKind, name: &[u8])
-    ensures same { w.new.out.ghost_name ≡ w.old.out.ghost_name }
-    ensures puts { Puts w.old.out.now w.old.at (symbol_line address.0 kind name.now) w.new.out.now w.new.at }
+    ensures { Wrote w.old (symbol_line address.0 kind name.now) w.new }
 {
     w.hex_head(b"symbol ", address.0);
     kind_word(w, kind);
@@ -84,8 +79,7 @@ pub fn symbol_line(w: &mut Writer, address: VA, kind: SymbolKind, name: &[u8])
 
 // An extern name and its slot.
 pub fn extern_line(w: &mut Writer, slot: VA, name: &[u8])
-    ensures same { w.new.out.ghost_name ≡ w.old.out.ghost_name }
-    ensures puts { Puts w.old.out.now w.old.at (extern_line slot.0 name.now) w.new.out.now w.new.at }
+    ensures { Wrote w.old (extern_line slot.0 name.now) w.new }
 {
     w.hex_head(b"extern ", slot.0);
     w.text(name);
@@ -94,8 +88,7 @@ pub fn extern_line(w: &mut Writer, slot: VA, name: &[u8])
 
 // The value is in two's complement.
 pub fn fix_line(w: &mut Writer, place: VA, bits: u64, value: u64)
-    ensures same { w.new.out.ghost_name ≡ w.old.out.ghost_name }
-    ensures puts { Puts w.old.out.now w.old.at (fix_line place.0 bits value) w.new.out.now w.new.at }
+    ensures { Wrote w.old (fix_line place.0 bits value) w.new }
 {
     w.hex_head(b"fix ", place.0);
     w.decimal_word(bits);
@@ -104,8 +97,7 @@ pub fn fix_line(w: &mut Writer, place: VA, bits: u64, value: u64)
 }
 
 fn reason_word(w: &mut Writer, reason: u64)
-    ensures same { w.new.out.ghost_name ≡ w.old.out.ghost_name }
-    ensures puts { Puts w.old.out.now w.old.at (K_WORD ++ decimal_text reason) w.new.out.now w.new.at }
+    ensures { Wrote w.old (K_WORD ++ decimal_text reason) w.new }
 {
     w.byte(b'K');
     w.decimal(reason);
@@ -113,8 +105,7 @@ fn reason_word(w: &mut Writer, reason: u64)
 
 // A skipped relocation and its reason.
 pub fn skip_line(w: &mut Writer, section: u64, relocation: u64, reason: u64)
-    ensures same { w.new.out.ghost_name ≡ w.old.out.ghost_name }
-    ensures puts { Puts w.old.out.now w.old.at (skip_line section relocation reason) w.new.out.now w.new.at }
+    ensures { Wrote w.old (skip_line section relocation reason) w.new }
 {
     w.decimal_head(b"skip ", section);
     w.decimal_word(relocation);
@@ -124,8 +115,7 @@ pub fn skip_line(w: &mut Writer, section: u64, relocation: u64, reason: u64)
 
 // How many were skipped, and passed.
 pub fn skipped_line(w: &mut Writer, skips: u64, passed: u64)
-    ensures same { w.new.out.ghost_name ≡ w.old.out.ghost_name }
-    ensures puts { Puts w.old.out.now w.old.at (skipped_line skips passed) w.new.out.now w.new.at }
+    ensures { Wrote w.old (skipped_line skips passed) w.new }
 {
     w.decimal_head(b"skipped ", skips);
     w.text(b"passed ");
@@ -135,8 +125,7 @@ pub fn skipped_line(w: &mut Writer, skips: u64, passed: u64)
 
 // A refusal.
 pub fn refused_line(w: &mut Writer, n: u64)
-    ensures same { w.new.out.ghost_name ≡ w.old.out.ghost_name }
-    ensures puts { Puts w.old.out.now w.old.at (refused_line n) w.new.out.now w.new.at }
+    ensures { Wrote w.old (refused_line n) w.new }
 {
     w.text(b"refused ");
     w.decimal(n);
@@ -145,8 +134,7 @@ pub fn refused_line(w: &mut Writer, n: u64)
 
 // An object that the program has no room for.
 pub fn too_large_line(w: &mut Writer)
-    ensures same { w.new.out.ghost_name ≡ w.old.out.ghost_name }
-    ensures puts { Puts w.old.out.now w.old.at too_large_line w.new.out.now w.new.at }
+    ensures { Wrote w.old too_large_line w.new }
 {
     w.text(b"too large\n");
 }

@@ -2,7 +2,7 @@
 #![tactic(auto)]
 
 ghost use Rattle.std.specs.Prelude.{◌≡◌, [], ◌∷◌, ◌++◌, ◌%◌, ◌≤◌};
-ghost use Rattle.text.specs.Text.{glyph, number, decimal_text, hex_text, signed_text, letter_or as mark_of, permissions_text, word, Puts};
+ghost use Rattle.text.specs.Text.{glyph, number, decimal_text, hex_text, signed_text, letter_or as mark_of, permissions_text, word, Wrote};
 
 // A lent buffer, and the place in it where the next byte goes. What has no room is left out. Names are bytes of any kind, so it is
 // no `fmt::Write`, which takes UTF-8.
@@ -16,8 +16,7 @@ impl Writer<'_> {
     // One byte.
     #[tactic(auto, using(crate::proofs::Laws::byte_ways))]
     pub fn byte(&mut self, b: u8)
-        ensures same { self.new.out.ghost_name ≡ self.old.out.ghost_name }
-        ensures puts { Puts self.old.out.now self.old.at (b ∷ []) self.new.out.now self.new.at }
+        ensures { Wrote self.old (b ∷ []) self.new }
     {
         if self.at < self.out.len() {
             self.out[self.at] = b;
@@ -27,8 +26,7 @@ impl Writer<'_> {
 
     // A run of bytes.
     pub fn text(&mut self, s: &[u8])
-        ensures same { self.new.out.ghost_name ≡ self.old.out.ghost_name }
-        ensures puts { Puts self.old.out.now self.old.at s.now self.new.out.now self.new.at }
+        ensures { Wrote self.old s.now self.new }
     {
         let n = le::room(self.out.len(), self.at, s.len());
         le::copy(self.out, self.at, s);
@@ -38,8 +36,7 @@ impl Writer<'_> {
     // The digits before the last, and the last.
     fn number(&mut self, n: u64, base: u64)
         requires { (2 ≤ base) × (base ≤ 16) }
-        ensures same { self.new.out.ghost_name ≡ self.old.out.ghost_name }
-        ensures puts { Puts self.old.out.now self.old.at (number base n) self.new.out.now self.new.at }
+        ensures { Wrote self.old (number base n) self.new }
     {
         let last = digit(n, base);
         if n < base {
@@ -52,24 +49,21 @@ impl Writer<'_> {
 
     // A number in decimal.
     pub fn decimal(&mut self, n: u64)
-        ensures same { self.new.out.ghost_name ≡ self.old.out.ghost_name }
-        ensures puts { Puts self.old.out.now self.old.at (decimal_text n) self.new.out.now self.new.at }
+        ensures { Wrote self.old (decimal_text n) self.new }
     {
         self.number(n, 10);
     }
 
     // A number in hexadecimal.
     pub fn hex(&mut self, n: u64)
-        ensures same { self.new.out.ghost_name ≡ self.old.out.ghost_name }
-        ensures puts { Puts self.old.out.now self.old.at (hex_text n) self.new.out.now self.new.at }
+        ensures { Wrote self.old (hex_text n) self.new }
     {
         self.number(n, 16);
     }
 
     // A number in two's complement.
     pub fn signed(&mut self, v: u64)
-        ensures same { self.new.out.ghost_name ≡ self.old.out.ghost_name }
-        ensures puts { Puts self.old.out.now self.old.at (signed_text v) self.new.out.now self.new.at }
+        ensures { Wrote self.old (signed_text v) self.new }
     {
         if v < 0x8000000000000000 {
             self.decimal(v);
@@ -80,8 +74,7 @@ impl Writer<'_> {
     }
 
     fn permissions(&mut self, p: u64)
-        ensures same { self.new.out.ghost_name ≡ self.old.out.ghost_name }
-        ensures puts { Puts self.old.out.now self.old.at (permissions_text p) self.new.out.now self.new.at }
+        ensures { Wrote self.old (permissions_text p) self.new }
     {
         self.byte(mark(p % 2, b'R'));
         self.byte(mark(p / 2 % 2, b'W'));
@@ -90,8 +83,7 @@ impl Writer<'_> {
 
     // With a space behind them.
     pub fn hex_word(&mut self, n: u64)
-        ensures same { self.new.out.ghost_name ≡ self.old.out.ghost_name }
-        ensures puts { Puts self.old.out.now self.old.at (word (hex_text n)) self.new.out.now self.new.at }
+        ensures { Wrote self.old (word (hex_text n)) self.new }
     {
         self.hex(n);
         self.byte(b' ');
@@ -99,8 +91,7 @@ impl Writer<'_> {
 
     // In decimal.
     pub fn decimal_word(&mut self, n: u64)
-        ensures same { self.new.out.ghost_name ≡ self.old.out.ghost_name }
-        ensures puts { Puts self.old.out.now self.old.at (word (decimal_text n)) self.new.out.now self.new.at }
+        ensures { Wrote self.old (word (decimal_text n)) self.new }
     {
         self.decimal(n);
         self.byte(b' ');
@@ -108,8 +99,7 @@ impl Writer<'_> {
 
     // Permissions.
     pub fn permissions_word(&mut self, p: u64)
-        ensures same { self.new.out.ghost_name ≡ self.old.out.ghost_name }
-        ensures puts { Puts self.old.out.now self.old.at (word (permissions_text p)) self.new.out.now self.new.at }
+        ensures { Wrote self.old (word (permissions_text p)) self.new }
     {
         self.permissions(p);
         self.byte(b' ');
@@ -117,8 +107,7 @@ impl Writer<'_> {
 
     // A line's first word, which has its own space, and its first number.
     pub fn hex_head(&mut self, s: &[u8], n: u64)
-        ensures same { self.new.out.ghost_name ≡ self.old.out.ghost_name }
-        ensures puts { Puts self.old.out.now self.old.at (s.now ++ word (hex_text n)) self.new.out.now self.new.at }
+        ensures { Wrote self.old (s.now ++ word (hex_text n)) self.new }
     {
         self.text(s);
         self.hex_word(n);
@@ -126,8 +115,7 @@ impl Writer<'_> {
 
     // The same in decimal.
     pub fn decimal_head(&mut self, s: &[u8], n: u64)
-        ensures same { self.new.out.ghost_name ≡ self.old.out.ghost_name }
-        ensures puts { Puts self.old.out.now self.old.at (s.now ++ word (decimal_text n)) self.new.out.now self.new.at }
+        ensures { Wrote self.old (s.now ++ word (decimal_text n)) self.new }
     {
         self.text(s);
         self.decimal_word(n);

@@ -2,5 +2,5 @@ use Rattle.std.proofs.Common.{rules}
 use Rattle.text.specs.TextLaws.{then}
 use Rattle.text.proofs.Writer.hex_word.Goals as goal
 
-pub returns-clause-puts : goal.returns-clause-puts
-returns-clause-puts c = search (rules, then)
+pub returns : goal.returns
+returns c = search (rules, then)
