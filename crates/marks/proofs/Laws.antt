@@ -1,14 +1,13 @@
 -- The ways through the code. Assumes nothing.
-use Rattle.std.proofs.Common.{◌≡◌, ℕ, zero, suc, ◌+◌, ◌-◌, ◌*◌, ◌/◌, ◌%◌, ◌^◌, ◌<◌, ◌≤◌, Bool, true, false, not, ◌&&◌, eqb, List, sym, refl, ap, ◌∙◌, ⊎_elim, mod-lt, mod-eq_of_lt, one-mul, pow-suc, add-one, one-add, arith, lit<, pow_pos, shl_exact, eq-eqb, ne_eqb, eqb-true}
+use Rattle.std.proofs.Common.{◌≡◌, ℕ, zero, suc, ◌+◌, ◌-◌, ◌*◌, ◌/◌, ◌%◌, ◌^◌, ◌<◌, ◌≤◌, Bool, true, false, ◌&&◌, eqb, List, sym, refl, ap, ◌∙◌, ⊎_elim, mod-lt, mod-eq_of_lt, pow-suc, add-one, one-add, arith, pow_pos, eq-eqb, ne_eqb, eqb-true}
 use mathlib.Core.Bool.{and-false}
 use lib.Count.{ones, ones-le}
-use lib.Pow.{pow-lt, mod-pow-add}
-use borrow.Author.Tests.{not-true, not-false}
+use lib.Pow.{mod-pow-add}
 use Rattle.std.specs.List.{list_all, range_with_len}
 use Rattle.util.specs.Pick.{both_ways, and_left, and_right, and_both, yes_no, not_both, le_or_lt}
-use Rattle.util.specs.Prefix.{all_to, sum_to, all_out, all_again, all_at, all_of}
+use Rattle.util.specs.Prefix.{all_to, sum_to, all_at, all_of}
 use Rattle.le.specs.Le.{get, le, splice, splice_next}
-use Rattle.marks.specs.Marks.{WORD_PAGES, WORD_BYTES, words_for, word_at, marked, all_marked, pages_in, mark_word, mark_bytes, marks_put}
+use Rattle.marks.specs.Marks.{WORD_PAGES, WORD_BYTES, word_at, marked, all_marked, pages_in, mark_word, mark_bytes}
 use Rattle.marks.specs.MarkLaws.{pages_at, pages_of_lem}
 use Rattle.marks.specs.PutLaws.{length_marks}
 
@@ -39,10 +38,6 @@ all_range p a (suc n) =
 pub pages_all : (m : List ℕ) (a b : ℕ) → list_all (marked m) (range_with_len a (b - a)) ≡ all_marked m a b
 unfolding all_marked
 pages_all m a b = all_range (marked m) a (b - a)
-
-pub pages_none : (m : List ℕ) (a : ℕ) → all_marked m a a ≡ true
-unfolding all_marked all_to
-pages_none m a = let z : a - a ≡ 0 = omega arith in rw z
 
 -- ---- a word at a time: its lowest c pages are marked where they are all ones
 full_step : (b r p : ℕ) → b < 2 → r < p → eqb r (p - 1) && eqb b 1 ≡ eqb (b * p + r) (p * 2 - 1)
@@ -86,9 +81,6 @@ module _ (m : List ℕ) (w : ℕ) where
       let z : low + 1 ≡ 2 ^ c = omega arith in
       rw (z, e, q) (sym (low_bits c (omega arith) ∙ bits_full (word_at m w) c))
 
-  pub low_fits : (c low : ℕ) → c < WORD_PAGES → low ≡ 2 ^ c - 1 → low + 1 < 2 ^ 64
-  low_fits c low h q = let l : 2 ^ c < 2 ^ 64 = pow-lt {i = c} {j = WORD_PAGES} h in let p = pow_pos c in omega arith
-
   pub word_marked : (word : ℕ) → word < 2 ^ 64 → word ≡ get WORD_BYTES m (WORD_BYTES * w)
       → eqb word (2 ^ 64 - 1) ≡ all_marked m (WORD_PAGES * w) (WORD_PAGES * w + WORD_PAGES)
   word_marked word h e =
@@ -104,30 +96,39 @@ module _ (m : List ℕ) (a b : ℕ) where
       (λ p z l. ⊎_elim (λ k. pages_at m a b p e k l) (λ k. pages_at m 0 a p t z k) (le_or_lt a p)))
       (λ e. pages_of_lem m a b (λ p z l. pages_at m 0 b p e (omega arith) l))
 
-module _ (m : List ℕ) (w : ℕ) (r : Bool) where
-  pub words_out : (pages : ℕ) → r ≡ all_marked m (WORD_PAGES * w) (WORD_PAGES * w + WORD_PAGES) → not r ≡ true → w < pages / WORD_PAGES → false ≡ all_marked m 0 pages
-  words_out pages e t h =
-      ⊎_elim
-      (λ z.
-      let y : all_marked m (WORD_PAGES * w) (WORD_PAGES * w + WORD_PAGES) ≡ true =
-      pages_of_lem m (WORD_PAGES * w) (WORD_PAGES * w + WORD_PAGES) (λ p k l. pages_at m 0 pages p z (omega arith) (omega arith)) in
-      not_both r (e ∙ y) (not-true r t))
-      (λ z. sym z) (yes_no (all_marked m 0 pages))
+-- whether each page of word w is marked
+abbrev pub whole : List ℕ → ℕ → Bool
+whole m w = all_marked m (WORD_PAGES * w) (WORD_PAGES * w + WORD_PAGES)
 
-  pub words_again : all_marked m 0 (WORD_PAGES * w) ≡ true → r ≡ all_marked m (WORD_PAGES * w) (WORD_PAGES * w + WORD_PAGES) → not r ≡ false
-      → all_marked m 0 (WORD_PAGES * (w + 1)) ≡ true
-  words_again a e t =
-      let z : WORD_PAGES * (w + 1) ≡ WORD_PAGES * w + WORD_PAGES = omega arith in
-      rw z (sym (e ∙ join m (WORD_PAGES * w) (WORD_PAGES * w + WORD_PAGES) a (omega arith)) ∙ not-false r t)
+pub words_all : (m : List ℕ) (n : ℕ) → list_all (whole m) (range_with_len 0 n) ≡ all_marked m 0 (WORD_PAGES * n)
+words_all m n =
+    all_range (whole m) 0 n
+    ∙ both_ways (all_to (λ k. whole m (0 + k)) n) (all_marked m 0 (WORD_PAGES * n))
+    (λ e. pages_of_lem m 0 (WORD_PAGES * n)
+    (λ p z l.
+    let y : 0 + p / WORD_PAGES ≡ p / WORD_PAGES = omega arith in
+    let t : whole m (p / WORD_PAGES) ≡ true = rw y at (all_at (λ k. whole m (0 + k)) n (p / WORD_PAGES) e (omega arith)) in
+    pages_at m (WORD_PAGES * (p / WORD_PAGES)) (WORD_PAGES * (p / WORD_PAGES) + WORD_PAGES) p t (omega arith) (omega arith)))
+    (λ e. all_of (λ k. whole m (0 + k)) n
+    (λ w h.
+    let y : 0 + w ≡ w = omega arith in
+    rw y (pages_of_lem m (WORD_PAGES * w) (WORD_PAGES * w + WORD_PAGES) (λ p k l. pages_at m 0 (WORD_PAGES * n) p e (omega arith) (omega arith)))))
 
-  pub words_end : (pages : ℕ) → all_marked m 0 (WORD_PAGES * w) ≡ true → w ≤ pages / WORD_PAGES → pages / WORD_PAGES ≤ w
-      → r ≡ all_marked m (WORD_PAGES * (pages / WORD_PAGES)) (WORD_PAGES * (pages / WORD_PAGES) + pages % WORD_PAGES) → r ≡ all_marked m 0 pages
-  words_end pages a h k e =
-      let z : pages / WORD_PAGES ≡ w = omega arith in
+module _ (m : List ℕ) (pages : ℕ) (words : Bool) (is : words ≡ all_marked m 0 (WORD_PAGES * (pages / WORD_PAGES))) where
+  pub first_yes : words ≡ true → (r : Bool) → r ≡ all_marked m (WORD_PAGES * (pages / WORD_PAGES)) (WORD_PAGES * (pages / WORD_PAGES) + pages % WORD_PAGES)
+      → r ≡ all_marked m 0 pages
+  first_yes t r e =
       let y : WORD_PAGES * (pages / WORD_PAGES) + pages % WORD_PAGES ≡ pages = omega arith in
-      e ∙ rw y (join m (WORD_PAGES * (pages / WORD_PAGES)) pages (rw z a) (omega arith))
+      e ∙ rw y (join m (WORD_PAGES * (pages / WORD_PAGES)) pages (sym is ∙ t) (omega arith))
 
-pub ruleset words_loop = (pages_none, words_out, words_again, words_end)
+  pub first_no : words ≡ false → words ≡ all_marked m 0 pages
+  first_no t =
+      ⊎_elim
+      (λ z. not_both words (is ∙ pages_of_lem m 0 (WORD_PAGES * (pages / WORD_PAGES)) (λ p k l. pages_at m 0 pages p z (omega arith) (omega arith))) t)
+      (λ z. t ∙ sym z)
+      (yes_no (all_marked m 0 pages))
+
+pub ruleset first_ways = (first_yes, first_no)
 
 -- ---- a sum modulo 2 ^ 64, as the count's loop has it
 module _ (f : ℕ → ℕ) where

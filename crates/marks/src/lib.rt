@@ -63,18 +63,21 @@ fn low_marked(marks: &[u8], w: u64, n: u64) -> bool
     word % (low + 1) == low
 }
 
+// Whether each page of the first n words is.
+fn words_marked(marks: &[u8], n: u64) -> bool
+    requires { WORD_BYTES * n < 2 ^ 64 }
+    ensures { result ≡ all_marked marks.now 0 (WORD_PAGES * n) }
+{
+    (0..n).all(|w| word_marked(marks, w))
+}
+
 // Whether each of the first pages is marked, a word at a time.
-#[tactic(auto, using(crate::proofs::Laws::words_loop))]
+#[tactic(auto, using(crate::proofs::Laws::first_ways))]
 pub fn first_marked(marks: &[u8], pages: u64) -> bool
     ensures { result ≡ all_marked marks.now 0 pages }
 {
     let n = pages / WORD_PAGES;
-    for w in 0..n {
-        if !word_marked(marks, w) {
-            return false;
-        }
-    }
-    low_marked(marks, n, pages % WORD_PAGES)
+    words_marked(marks, n) && low_marked(marks, n, pages % WORD_PAGES)
 }
 
 // How many pages word w marks.
@@ -116,6 +119,10 @@ pub fn put_marks(pages: u32, marks: &mut [u8])
     ensures { marks.new ≡ marks_put pages marks.old }
 {
     for w in 0..words_for(u64::from(pages)) as u32 {
-        le::put_u64(marks, (WORD_BYTES * u64::from(w)) as usize, mark_word(pages, w));
+        le::put_u64(
+            marks,
+            (WORD_BYTES * u64::from(w)) as usize,
+            mark_word(pages, w),
+        );
     }
 }
