@@ -2,7 +2,6 @@
 #![tactic(auto)]
 
 ghost use Rattle.std.specs.Prelude.{◌≡◌, ◌+◌, ◌-◌, ◌*◌, ◌%◌, ◌^◌, ◌<◌, count_ones};
-ghost use Rattle.le.specs.Le.{le, splice};
 ghost use Rattle.marks.specs.Marks.{WORD_PAGES, WORD_BYTES, words_for, word_at, marked, all_marked, page_count, mark_word, marks_put};
 
 // Pages that a word marks.
@@ -18,17 +17,23 @@ pub fn words_for(n: u64) -> u64
     n.div_ceil(WORD_PAGES)
 }
 
+// Word w of the marks; one that would lie past what a number of 64 bits reaches is 0, as all past the end are.
+#[tactic(auto, using(crate::proofs::Laws::word_is))]
+fn word(marks: &[u8], w: u64) -> u64
+    ensures { result ≡ word_at marks.now w }
+{
+    le::u64_at(marks, w.saturating_mul(WORD_BYTES) as usize)
+}
+
 // Whether page p is marked.
 #[tactic(auto, using(crate::proofs::Laws::marked_is))]
 pub fn marked(marks: &[u8], p: u64) -> bool
     ensures { result ≡ marked marks.now p }
 {
-    let word = le::u64_at(marks, (WORD_BYTES * (p / WORD_PAGES)) as usize);
-    (word >> (p % WORD_PAGES)) % 2 == 1
+    (word(marks, p / WORD_PAGES) >> (p % WORD_PAGES)) % 2 == 1
 }
 
 // Whether each page from `from` up to `to` is marked.
-#[tactic(auto, using(crate::proofs::Laws::pages_all))]
 pub fn all_marked(marks: &[u8], from: u64, to: u64) -> bool
     ensures { result ≡ all_marked marks.now from to }
 {
@@ -46,26 +51,23 @@ fn ones(n: u64) -> u64
 // Whether each page of word w is marked.
 #[tactic(auto, using(crate::proofs::Laws::word_marked))]
 fn word_marked(marks: &[u8], w: u64) -> bool
-    requires { WORD_BYTES * w < 2 ^ 64 }
     ensures { result ≡ all_marked marks.now (WORD_PAGES * w) (WORD_PAGES * w + WORD_PAGES) }
 {
-    le::u64_at(marks, (WORD_BYTES * w) as usize) == u64::MAX
+    word(marks, w) == u64::MAX
 }
 
 // Whether each of its n lowest pages is.
 #[tactic(auto, using(crate::proofs::Laws::low_marked))]
 fn low_marked(marks: &[u8], w: u64, n: u64) -> bool
-    requires { (WORD_BYTES * w < 2 ^ 64) × (n < WORD_PAGES) }
+    requires { n < WORD_PAGES }
     ensures { result ≡ all_marked marks.now (WORD_PAGES * w) (WORD_PAGES * w + n) }
 {
-    let word = le::u64_at(marks, (WORD_BYTES * w) as usize);
     let low = ones(n);
-    word % (low + 1) == low
+    word(marks, w) % (low + 1) == low
 }
 
 // Whether each page of the first n words is.
 fn words_marked(marks: &[u8], n: u64) -> bool
-    requires { WORD_BYTES * n < 2 ^ 64 }
     ensures { result ≡ all_marked marks.now 0 (WORD_PAGES * n) }
 {
     (0..n).all(|w| word_marked(marks, w))
@@ -81,11 +83,10 @@ pub fn first_marked(marks: &[u8], pages: u64) -> bool
 }
 
 // How many pages word w marks.
-fn ones_at(marks: &[u8], w: usize) -> u64
-    requires { WORD_BYTES * w < 2 ^ 64 }
+fn ones_at(marks: &[u8], w: u64) -> u64
     ensures { result ≡ count_ones (word_at marks.now w) }
 {
-    u64::from(le::u64_at(marks, WORD_BYTES as usize * w).count_ones())
+    u64::from(word(marks, w).count_ones())
 }
 
 // The number of mapped pages, as the marks say it: the ones of each word, summed. Past 64 bits it wraps; that takes 2 ^ 61 bytes of marks.
@@ -94,7 +95,7 @@ pub fn page_count(marks: &[u8]) -> u64
     ensures { result ≡ page_count marks.now % 2 ^ 64 }
 {
     let mut sum: u64 = 0;
-    for w in 0..marks.len() / WORD_BYTES as usize {
+    for w in 0..marks.len() as u64 / WORD_BYTES {
         sum = sum.wrapping_add(ones_at(marks, w));
     }
     sum
