@@ -12,7 +12,9 @@ ghost use Rattle.program.specs.Holding.{Ready, HoldsTables, Printed};
 ghost use Rattle.storage.specs.Storage.{storage};
 
 use arch::{PAGE_SIZE, VA};
+use listing::Tables;
 use survey::Counts;
+use text::Writer;
 use verdict::Verdict;
 pub use written::{Written, count};
 
@@ -45,8 +47,12 @@ fn too_large(f: &[u8]) -> Written
     ensures { result.lines ≡ line_total f.now }
 {
     let mut line = [0u8; LINE_ROOM];
-    let n = lines::too_large_line(&mut line);
-    written::say(f, written::none(), le::part(&line, 0, n))
+    let mut out = Writer {
+        out: &mut line,
+        at: 0,
+    };
+    lines::too_large_line(&mut out);
+    written::say(f, written::none(), out.written())
 }
 
 fn refused(f: &[u8], number: u64) -> Written
@@ -54,8 +60,12 @@ fn refused(f: &[u8], number: u64) -> Written
     ensures { result.lines ≡ line_total f.now }
 {
     let mut line = [0u8; LINE_ROOM];
-    let n = lines::refused_line(&mut line, number);
-    written::say(f, written::none(), le::part(&line, 0, n))
+    let mut out = Writer {
+        out: &mut line,
+        at: 0,
+    };
+    lines::refused_line(&mut out, number);
+    written::say(f, written::none(), out.written())
 }
 
 // The next line of the load.
@@ -74,19 +84,21 @@ fn list_line(
     ensures { result.lines ≡ w.lines + 1 }
 {
     let mut line = [0u8; LINE_ROOM];
-    let n = listing::line(
-        f,
-        VA(BASE),
-        c,
+    let mut out = Writer {
+        out: &mut line,
+        at: 0,
+    };
+    let tables = Tables {
+        file: f,
+        counts: c,
         sections,
         symbols,
         externs,
         fixups,
         skips,
-        written::count(w),
-        &mut line,
-    );
-    written::say(f, w, le::part(&line, 0, n))
+    };
+    tables.line(VA(BASE), written::count(w), &mut out);
+    written::say(f, w, out.written())
 }
 
 // Every line of the load.

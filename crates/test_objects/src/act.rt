@@ -3,8 +3,10 @@ ghost use Rattle.std.specs.Prelude.{◌≤◌};
 
 use crate::say;
 use arch::VA;
+use listing::Tables;
 use refusal::Refusal;
 use survey::Counts;
+use text::Writer;
 
 const TABLES: u8 = 0;
 
@@ -104,19 +106,21 @@ fn table_line(
     k: u32,
 ) {
     let mut line = [0u8; 16384];
-    let n = listing::line(
-        f,
-        VA(base),
-        c,
+    let mut out = Writer {
+        out: &mut line,
+        at: 0,
+    };
+    let tables = Tables {
+        file: f,
+        counts: c,
         sections,
         symbols,
         externs,
         fixups,
         skips,
-        k,
-        &mut line,
-    );
-    cases::text(le::part(&line, 0, n));
+    };
+    tables.line(VA(base), k, &mut out);
+    cases::text(out.written());
 }
 
 // `patch NUMBER POSITION`
