@@ -1,5 +1,5 @@
 -- The ways through the checks. Assumes nothing.
-use Rattle.std.specs.Prelude.{None, Option, Some}
+use Rattle.std.specs.Prelude.{None, Option, Some, is_some, is_ok}
 use mathlib.Core.Path.{◌≡◌, refl, sym, ◌∙◌}
 use mathlib.Core.Bool.{Bool, true, false, ◌&&◌, ◌||◌, not}
 use mathlib.Core.List.{List}
@@ -10,7 +10,7 @@ use Rattle.util.specs.Pick.{and_left, and_right, not_both}
 use Rattle.util.specs.Prefix.{all_to}
 use Rattle.limits.specs.Limits.{MAX_FILE, MAX_SECTIONS, MAX_SYMBOLS, MAX_RELOCATIONS}
 use Rattle.arch.specs.declared.Arch.{Arch}
-use Rattle.arch.specs.Machine.{arch_of}
+use Rattle.arch.specs.Machine.{arch_of, machine_refusal}
 use Rattle.object.specs.declared.Header.{Header}
 use Rattle.object.specs.Format.{HEADER_SIZE, LENGTH_SIZE, RELOCATION_SIZE, section_header_at, string_table, string_length, address_field, raw_pointer, raw_size, relocation_pointer}
 use Rattle.object.specs.Section.{loaded, uninitialized, extended, relocation_records}
@@ -18,12 +18,9 @@ use Rattle.object.specs.Symbol.{auxiliaries_left}
 use Rattle.bounds.specs.Bounds.{size_ok, machine_ok, section_table_ok, strings_ok, symbol_table_ok, bytes_ok, data_ok, relocations_ok, section_ok, sections_ok, relocation_total}
 
 -- ---- 1, 2 and 3
-module _ (h : Header) (m : Option Arch) (is : m ≡ arch_of h.machine) where
-  pub machine_known : (a : Arch) → m ≡ Some a → true ≡ machine_ok h
-  machine_known a e = rw (← is, e)
-
-  pub machine_unknown : m ≡ None → false ≡ machine_ok h
-  machine_unknown e = rw (← is, e)
+pub machine_is : (m : Option Arch) → is_some m ≡ is_ok (machine_refusal m)
+machine_is (Some a) = refl
+machine_is None = refl
 
 module _ (f : List ℕ) where
   pub size_is : {r : Bool} → r ≡ (leb HEADER_SIZE (length f) && leb (length f) MAX_FILE) → r ≡ size_ok f
@@ -34,7 +31,7 @@ module _ (f : List ℕ) where
   unfolding section_table_ok
   section_table_is h at e q = rw (← q) e
 
-pub ruleset first_checks_lem = (machine_known, machine_unknown, size_is, section_table_is)
+pub ruleset first_checks_lem = (machine_is, size_is, section_table_is)
 
 -- ---- 4
 cut_at : (a s t o : Bool) → t ≡ (a && s) → t ≡ false → false ≡ (a && (s && o))

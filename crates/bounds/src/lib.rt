@@ -34,11 +34,7 @@ pub fn size_ok(f: &[u8]) -> bool
 pub fn machine_ok(h: Header) -> bool
     ensures { result ≡ machine_ok h }
 {
-    let m = Arch::of_machine(h.machine);
-    match m {
-        Some(_) => true,
-        None => false,
-    }
+    Arch::of_machine(h.machine).is_some()
 }
 
 // 3: not too many sections, and their table lies in the file.
