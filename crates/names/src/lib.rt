@@ -23,4 +23,3 @@ pub struct Span {
     pub at: usize,
     pub most: usize,
 }
-
