@@ -1,7 +1,7 @@
 -- The ways through the readers, and the loops over the list of externs. Assumes nothing.
 use Rattle.refusal.specs.declared.Refusal.{Refusal}
 use Rattle.std.specs.Prelude.{None, Option, Some, Err, Ok, Result}
-use Rattle.std.proofs.Common.{Ordering, Less, Equal, Greater}
+use Rattle.std.proofs.Common.{Ordering, Less, Equal, Greater, nat_cmp}
 use Rattle.le.specs.Le.{splice, splice_next, splice_above, fill_none, fill_again, fill_end, IsBytes}
 use mathlib.Core.Path.{◌≡◌, refl, sym, ap, ◌∙◌}
 use mathlib.Core.Bool.{Bool, true, false}
@@ -11,12 +11,12 @@ use Prim.Native.Nat.{ℕ, zero, suc, ◌+◌, ◌-◌, ◌/◌, ◌%◌, ◌≤�
 use native.Mathlib.Nat.{not-suc-le-zero, le_of_suc-le-suc}
 use native.Mathlib.Numerals.{add-one}
 use native.Mathlib.Omega.{arith}
-use borrow.Author.Tests.{eq-eqb, ne_eqb}
+use borrow.Author.Tests.{eq-eqb, ne_eqb, lt-ltb, le-ltb}
 use lib.ListN.{length, get_or, take, drop, set, length-append, length-drop, drop_of_length-le, length-set, replicate, length-replicate, length-take, replicate-append-replicate}
 use lib.Seq.{drop-cons, take-suc, take-take, take-append-le, length-take-le, length-paste, get_or-take, take-set-lt, set_split, split_at, take_at, drop_at, append_snoc, sets-eq}
 use Rattle.std.proofs.lemmas.List.{drop-take}
 use Rattle.std.specs.List.{copy_within}
-use Rattle.util.specs.Pick.{pick, le_or_lt}
+use Rattle.util.specs.Pick.{pick, le_or_lt, three_ways}
 use Rattle.util.specs.Prefix.{length_list}
 use Rattle.object.specs.declared.Header.{Header}
 use Rattle.names.specs.Bytes.{are_same_bytes, compare_bytes}
@@ -439,13 +439,18 @@ pub ruleset half_loop = (half_begin, half_left, half_here, half_right, half_none
 
 -- the order of a name and an entry, by their keys
 module _ (f : List ℕ) (h : Header) (name : Span) (a x b : ℕ) (m : (i : ℕ) → Fits w8 (get_or f i 0)) (mine : a ≡ key KEY_BYTES (span_text f name)) (its : b ≡ symbol_key f h x) where
-  pub entry_less : a < b → Less ≡ name_order f h (span_text f name) x
+  entry_less : a < b → Less ≡ name_order f h (span_text f name) x
   entry_less c = sym (key_less f (λ i. let b = m i in omega arith) name (symbol_span f h x) (rw (mine, its) at c))
 
-  pub entry_greater : b < a → Greater ≡ name_order f h (span_text f name) x
+  entry_greater : b < a → Greater ≡ name_order f h (span_text f name) x
   entry_greater c = sym (key_greater f (λ i. let b = m i in omega arith) name (symbol_span f h x) (rw (mine, its) at c))
 
-pub ruleset entry_ways = (entry_less, entry_greater)
+  pub entry_apart : (r : Ordering) → r ≡ nat_cmp a b → (r ≡ Equal → ⊥) → r ≡ name_order f h (span_text f name) x
+  entry_apart r e n =
+      ⊎_elim (λ c. rw (e, lt-ltb a b c) (entry_less c))
+      (λ s. ⊎_elim (λ q. absurd (n (rw (e, le-ltb a b (omega arith), eq-eqb a b q))))
+      (λ c. rw (e, le-ltb a b (omega arith), ne_eqb a b (λ z. omega arith)) (entry_greater c)) s)
+      (three_ways a b)
 
 -- ---- the slots into the codes
 module _ (found : Option ℕ) where

@@ -256,7 +256,7 @@ fn clear(slots: &mut [u32], from: usize)
 
 // The order of a name, whose key is `own`, and that of symbol x, whose key is `other`. Only names with equal keys are compared.
 // It does not call name_order, which the compiler puts in line only where `find` alone calls it.
-#[tactic(auto, using(crate::proofs::Laws::entry_ways, crate::proofs::Laws::order_by))]
+#[tactic(auto, using(crate::proofs::Laws::entry_apart, crate::proofs::Laws::order_by))]
 fn entry_order(f: &[u8], h: Header, name: Span, own: u64, x: u32, other: u64) -> Ordering
     requires { (own ≡ key KEY_BYTES (span_text f.now name)) × (other ≡ symbol_key f.now h x) }
     ensures { result ≡ name_order f.now h (span_text f.now name) x }
