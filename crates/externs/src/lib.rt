@@ -69,7 +69,15 @@ fn symbol_key(f: &[u8], h: Header, j: u32) -> u64
 }
 
 // Where j, whose name has that key, goes among the first n, or where its name is. Only names with equal keys are compared.
-fn find(f: &[u8], h: Header, slots: &[u32], keys: &[u64], n: usize, j: u32, key: u64) -> Result<usize, usize>
+fn find(
+    f: &[u8],
+    h: Header,
+    slots: &[u32],
+    keys: &[u64],
+    n: usize,
+    j: u32,
+    key: u64,
+) -> Result<usize, usize>
     requires { (n ≤ length slots.now) × (n ≤ length keys.now) × InStep f.now h slots.now keys.now n × (key ≡ symbol_key f.now h j) × Rising f.now h (held n slots.now) }
     ensures { Placed f.now h j n (held n slots.now) result }
 {
@@ -232,7 +240,13 @@ fn add_records(
 
 // `keys` are those of the names that `slots` holds.
 #[tactic(auto, using(crate::proofs::Spending::externs_loop))]
-fn fill(f: &[u8], h: Header, codes: &mut [u16], slots: &mut [u32], keys: &mut [u64]) -> Option<usize>
+fn fill(
+    f: &[u8],
+    h: Header,
+    codes: &mut [u16],
+    slots: &mut [u32],
+    keys: &mut [u64],
+) -> Option<usize>
     requires { (MAX_EXTERNS < length slots.old) × (MAX_EXTERNS < length keys.old) }
     ensures holds { Holds (externs_by f.now h (puts_in codes.old)) slots.new result }
     ensures left_for { LeftFor f.now h codes.old codes.new slots.new keys.new result }

@@ -116,14 +116,7 @@ fn write_section(
 
 // The records of section i: without a home all are passed, and none is read.
 #[tactic(auto, using(crate::proofs::Laws::no_rows))]
-fn write_next(
-    r: Resolver,
-    base: VA,
-    i: u32,
-    p: Rows,
-    fixups: &mut [u8],
-    skips: &mut [u8],
-) -> Rows
+fn write_next(r: Resolver, base: VA, i: u32, p: Rows, fixups: &mut [u8], skips: &mut [u8]) -> Rows
     requires { (i < 2 ^ 16) × (p.fixups ≤ 2 ^ 32 * i) × (p.skips ≤ 2 ^ 32 * i) }
     ensures { Step p
         (over_records (fix_bytes_at base.0 (outcome r.entry.arch r.entry.file.now r.entry.header (home_in r.entry.homes.now) (target_in r.entry.homes.now r.entry.undef r.entry.codes.now))) i (relocation_count r.entry.file.now r.entry.header i))

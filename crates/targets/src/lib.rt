@@ -67,7 +67,9 @@ fn code_target(homes: &[u32], undef: u32, c: u16) -> Target
     match u32::from(c) {
         0..codes::HOMES => plain_target(undef, c),
         n @ codes::HOMES..codes::RECORDS => home_target(homes, n - codes::HOMES),
-        n @ codes::RECORDS..codes::SLOTS => Target::Named(homes::start_in(homes, n - codes::RECORDS)),
+        n @ codes::RECORDS..codes::SLOTS => {
+            Target::Named(homes::start_in(homes, n - codes::RECORDS))
+        }
         n => Target::Slot(RVA(u64::from(undef) + limits::SLOT_SIZE * u64::from(n - codes::SLOTS))),
     }
 }
