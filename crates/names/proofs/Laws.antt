@@ -1,7 +1,7 @@
 -- The loops over bytes, and the ways through the name readers. Assumes nothing.
 use Rattle.names.specs.declared.Name.{Name}
 use Rattle.names.specs.Name.{good_name}
-use Rattle.std.specs.Ordering.{Ordering, Less, Equal, Greater}
+use Rattle.std.proofs.Common.{Ordering, Less, Equal, Greater}
 use Rattle.std.specs.Prelude.{None, Option, Some}
 use mathlib.Core.Path.{◌≡◌, refl, sym, ap, ◌∙◌}
 use mathlib.Core.Bool.{Bool, true, false, and-false}

@@ -32,7 +32,7 @@ fn put_symbol(
     let offset = homes::listed_offset(homes, p, object::listed_of(s));
     let address = std::num::wrapping_add_u64(base.0, offset.0);
     let name = stops::symbol_name(f, h, stops, j);
-    let kind = kinds::kind_number(object::kind_of(s));
+    let kind = u64::from(object::kind_of(s));
     let home = homes::record_of_place(homes, p);
     let ws = [
         address,
