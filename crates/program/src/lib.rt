@@ -12,6 +12,7 @@ ghost use Rattle.program.specs.Holding.{Ready, HoldsTables, Printed};
 ghost use Rattle.storage.specs.Storage.{storage};
 
 use arch::{PAGE_SIZE, VA};
+use refusal::Refusal;
 use survey::Counts;
 use verdict::Verdict;
 pub use written::{Written, count};
@@ -49,12 +50,12 @@ fn too_large(f: &[u8]) -> Written
     written::say(f, written::none(), le::part(&line, 0, n))
 }
 
-fn refused(f: &[u8], number: u64) -> Written
-    requires { verdict_of f.now ≡ verdicts.Refused number }
+fn refused(f: &[u8], refusal: Refusal) -> Written
+    requires { verdict_of f.now ≡ verdicts.Refused refusal }
     ensures { result.lines ≡ line_total f.now }
 {
     let mut line = [0u8; LINE_ROOM];
-    let n = lines::refused_line(&mut line, number);
+    let n = lines::refused_line(&mut line, refusal.number());
     written::say(f, written::none(), le::part(&line, 0, n))
 }
 
@@ -170,7 +171,7 @@ fn loaded(
     requires { Ready f.now c (storage image.old marks.old sections.old symbols.old externs.old fixups.old skips.old) }
     ensures { Printed f.now image.new result.lines }
 {
-    load::load(
+    let _ = load::load(
         f,
         VA(BASE),
         image,
@@ -181,7 +182,7 @@ fn loaded(
         fixups,
         skips,
     );
-    patch::patch(VA(BASE), image, marks, fixups, u64::MAX, 0);
+    let _ = patch::patch(VA(BASE), image, marks, fixups, u64::MAX, 0);
     list(f, c, sections, symbols, externs, fixups, skips)
 }
 
@@ -191,7 +192,7 @@ pub fn top_up(f: &[u8]) -> Written
 {
     match verdict::verdict(f) {
         Verdict::TooLarge => too_large(f),
-        Verdict::Refused(n) => refused(f, n),
+        Verdict::Refused(r) => refused(f, r),
         Verdict::Lines(c) => lend(f, c),
     }
 }

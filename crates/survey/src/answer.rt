@@ -1,7 +1,7 @@
 // What survey answers.
 // How much load will need, and the file's own numbers: mapped pages, records of the section table with UNDEF's, listed symbols, extern names,
 // fixups, skipped and passed relocations; the file's section records, symbol records and relocations.
-#[derive(Clone, Copy, PartialEq, Eq)]
+#[derive(Clone, Copy, Default, PartialEq, Eq)]
 pub struct Counts {
     pub pages: u64,
     pub sections: u64,
