@@ -13,6 +13,7 @@ ghost use Rattle.storage.specs.Storage.{storage};
 
 use arch::{PAGE_SIZE, VA};
 use listing::Tables;
+use refusal::Refusal;
 use survey::Counts;
 use text::Writer;
 use verdict::Verdict;
@@ -55,8 +56,8 @@ fn too_large(f: &[u8]) -> Written
     written::say(f, written::none(), out.written())
 }
 
-fn refused(f: &[u8], number: u64) -> Written
-    requires { verdict_of f.now ≡ verdicts.Refused number }
+fn refused(f: &[u8], refusal: Refusal) -> Written
+    requires { verdict_of f.now ≡ verdicts.Refused refusal }
     ensures { result.lines ≡ line_total f.now }
 {
     let mut line = [0u8; LINE_ROOM];
@@ -64,7 +65,7 @@ fn refused(f: &[u8], number: u64) -> Written
         out: &mut line,
         at: 0,
     };
-    lines::refused_line(&mut out, number);
+    lines::refused_line(&mut out, refusal.number());
     written::say(f, written::none(), out.written())
 }
 
@@ -182,7 +183,7 @@ fn loaded(
     requires { Ready f.now c (storage image.old marks.old sections.old symbols.old externs.old fixups.old skips.old) }
     ensures { Printed f.now image.new result.lines }
 {
-    load::load(
+    let _ = load::load(
         f,
         VA(BASE),
         image,
@@ -193,7 +194,7 @@ fn loaded(
         fixups,
         skips,
     );
-    patch::patch(VA(BASE), image, marks, fixups, u64::MAX, 0);
+    let _ = patch::patch(VA(BASE), image, marks, fixups, u64::MAX, 0);
     list(f, c, sections, symbols, externs, fixups, skips)
 }
 
@@ -203,7 +204,7 @@ pub fn top_up(f: &[u8]) -> Written
 {
     match verdict::verdict(f) {
         Verdict::TooLarge => too_large(f),
-        Verdict::Refused(n) => refused(f, n),
+        Verdict::Refused(r) => refused(f, r),
         Verdict::Lines(c) => lend(f, c),
     }
 }

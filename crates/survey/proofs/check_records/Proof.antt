@@ -1,10 +1,10 @@
 use borrow.Author.Rules.{rules}
 use Rattle.survey.proofs.Laws.{chain}
-use Rattle.survey.proofs.records_code.Statement.{statement}
-use Rattle.survey.proofs.records_code.Tie as tie
+use Rattle.survey.proofs.check_records.Statement.{statement}
+use Rattle.survey.proofs.check_records.Tie as tie
 
-pub records_code_spec : {M : Type 1} → statement M
-records_code_spec =
+pub check_records_spec : {M : Type 1} → statement M
+check_records_spec =
     tie.close
     (tie.spec
     (λ c. search (rules, chain) depth 14 fits 6000)
