@@ -1,5 +1,5 @@
 -- Bytes as text: where a run ends, decimal digits, and the order of two names (01, "Records").
-use Rattle.std.specs.Ordering.{Ordering, Less, Equal, Greater}
+use Rattle.std.proofs.Common.{Ordering, Less, Equal, Greater}
 use Rattle.std.specs.Prelude.{Bool, true, false, ◌&&◌, List, [], ◌∷◌, ℕ, zero, suc, ◌+◌, ◌-◌, ◌*◌, length, get_or, ltb, leb, eqb}
 use Rattle.util.specs.Pick.{pick}
 use Rattle.util.specs.Prefix.{all_to}

@@ -1,7 +1,6 @@
 -- What a good name is: only bytes that a name may have, and an end where one is due (01, "Records").
 -- A byte past the file reads as 0; the survey's refusals 3 and 4 keep every field and the string table within it.
 use Rattle.names.specs.declared.Name.{Name}
-use Rattle.names.specs.Name.{good_name}
 use Rattle.std.specs.Prelude.{◌≡◌, refl, Bool, ◌&&◌, List, [], ◌∷◌, ◌⊎◌, ℕ, zero, suc, ◌+◌, ◌-◌, ◌≤◌, ◌<◌, min, eqb, length, get_or, take, drop, None, Option, Some}
 use Rattle.std.proofs.Common.{sym, ap, ◌∙◌, inl, inr, ⊎_elim, not-suc-le-zero, arith, drop_of_length-le, drop-cons, add-one}
 use Rattle.std.proofs.Math.Bool.{true, false}
@@ -18,7 +17,7 @@ use Rattle.chars.specs.GoodLaws.{Allowed, good_visible, good_some, good_allowed,
 use Rattle.object.specs.declared.Header.{Header}
 use Rattle.object.specs.Format.{NAME_SIZE, LONG_OFFSET_AT, section_header_at, symbol_record_at, string_table, string_length}
 use Rattle.names.specs.Bytes.{run, up_to_zero, all_digits, decimal, are_same_bytes, UNDEF}
-use Rattle.names.specs.Name.{name_bytes, short_run, long_run, symbol_run, slash_run, slash_by, slash_digits, section_run, checked, section_name_at, symbol_name_at, section_name, symbol_name, SLASH, left_from, long_span, span_at, no_span, slash_span, span_text, symbol_text}
+use Rattle.names.specs.Name.{good_name, name_bytes, name_start, name_length, short_run, long_run, symbol_run, slash_run, slash_by, slash_digits, section_run, checked, section_name_at, symbol_name_at, section_name, symbol_name, SLASH, left_from, long_span, span_at, no_span, slash_span, span_text, symbol_text}
 
 -- ---- where a run ends
 -- one more byte: a zero ends the run, any other is passed
@@ -89,11 +88,11 @@ taken_is false m at n e = cc
 
 -- a name that is taken passed its rule, on the bytes that it names
 pub checked_good : (good : List ℕ → Bool) (f : List ℕ) (m : Option Name) (at n : ℕ) → checked good f m ≡ good_name at n → good (part f at n) ≡ true
-unfolding checked
+unfolding checked name_bytes
 checked_good good f None at n e = cc
 checked_good good f (Some m) at n e =
     let t : good (part f m.at m.length) ≡ true = taken (good (part f m.at m.length)) (Some m) at n e in
-    let q : m ≡ record { at = at; length = n } = cc in
+    let q : part f m.at m.length ≡ part f at n = ap (name_bytes f) (taken_is (good (part f m.at m.length)) (Some m) at n e) in
     rw q at t
 
 -- the check moves nothing: the name stands where it was found
@@ -160,8 +159,8 @@ field_run f field =
 -- a short name: at most eight bytes, and a zero behind fewer
 pub short_name : (f : List ℕ) (field at n : ℕ) → short_run f field ≡ good_name at n → InField f field at n
 short_name f field at n e =
-    let a : field ≡ at = cc in
-    let r : run f field NAME_SIZE ≡ n = cc in
+    let a : field ≡ at = ap name_start e in
+    let r : run f field NAME_SIZE ≡ n = ap name_length e in
     rw (← a, ← r) (field_run f field)
 
 strings_run : (f : List ℕ) (h : Header) (offset n : ℕ) → n ≡ run f (string_table h + offset) (string_length f h - offset) → 4 ≤ offset → n < string_length f h - offset
@@ -183,8 +182,8 @@ long_name f h offset at n e =
     let r = run f (string_table h + offset) left in
     let t : leb 4 offset && ltb r left ≡ true = taken (leb 4 offset && ltb r left) (good_name (string_table h + offset) r) at n e in
     let q : good_name (string_table h + offset) r ≡ good_name at n = taken_is (leb 4 offset && ltb r left) (good_name (string_table h + offset) r) at n e in
-    let a : string_table h + offset ≡ at = cc in
-    let b : r ≡ n = cc in
+    let a : string_table h + offset ≡ at = ap name_start q in
+    let b : r ≡ n = ap name_length q in
     let low = leb-true 4 offset (and_left (leb 4 offset) (ltb r left) t) in
     let k = ltb-true r left (and_right (leb 4 offset) (ltb r left) t) in
     rw (← a, ← b) (strings_run f h offset r refl low k)
@@ -293,8 +292,8 @@ module _ (f : List ℕ) (h : Header) (at n : ℕ) where
       let r = run f (string_table h + offset) left in
       let t : leb 4 offset && ltb r left ≡ true = taken (leb 4 offset && ltb r left) (good_name (string_table h + offset) r) at n e in
       let q : good_name (string_table h + offset) r ≡ good_name at n = taken_is (leb 4 offset && ltb r left) (good_name (string_table h + offset) r) at n e in
-      let a : string_table h + offset ≡ at = cc in
-      let b : r ≡ n = cc in
+      let a : string_table h + offset ≡ at = ap name_start q in
+      let b : r ≡ n = ap name_length q in
       rw (and_left (leb 4 offset) (ltb r left) t, ← b, ← a) (sym (text_run f (string_table h + offset) left))
 
   short_text : (field : ℕ) → pick (eqb (get_or f field 0) 0) None (short_run f field) ≡ good_name at n → up_to_zero (part f field NAME_SIZE) ≡ part f at n
@@ -304,8 +303,8 @@ module _ (f : List ℕ) (h : Header) (at n : ℕ) where
       by_first : (b : Bool) → pick b None (short_run f field) ≡ good_name at n → up_to_zero (part f field NAME_SIZE) ≡ part f at n
       by_first true q = cc
       by_first false q =
-          let a : field ≡ at = cc in
-          let r : run f field NAME_SIZE ≡ n = cc in
+          let a : field ≡ at = ap name_start q in
+          let r : run f field NAME_SIZE ≡ n = ap name_length q in
           rw (← a, ← r) (sym (text_run f field NAME_SIZE))
 
   run_text : (field : ℕ) → symbol_run f h field ≡ good_name at n → span_text f (span_at f h field) ≡ part f at n

@@ -1,15 +1,14 @@
 // Names in the records and in the string table.
-ghost use Rattle.std.specs.Prelude.{◌≡◌, ◌<◌, ◌^◌, min};
+ghost use Rattle.std.specs.Prelude.{◌≡◌, ◌<◌, ◌^◌, Some};
 ghost use Rattle.object.specs.Format.{section_header_at};
-ghost use Rattle.chars.specs.Chars.{good_section_name, good_symbol_name};
 ghost use Rattle.names.specs.Bytes.{are_same_bytes, UNDEF};
 ghost use Rattle.names.specs.Name.{
   long_run,
+  short_run,
   symbol_run,
   slash_offset,
   slash_run,
   section_run,
-  checked,
   section_name,
   symbol_name,
   name_bytes,
@@ -36,15 +35,13 @@ pub const SLASH: u8 = 0x2F;
 const UNDEF_ROOM: usize = 6;
 
 // The part of the string table at `offset`, up to a zero that lies within the table.
+#[tactic(auto, using(util::specs::Pick::picks), unfolding(crate::specs::Name::long_run))]
 fn long_run(f: &[u8], h: Header, offset: u64) -> Option<Name>
     ensures { result ≡ long_run f.now h offset }
 {
     let length = object::string_length(f, h) as usize;
     let from = offset as usize;
-    if from < object::LENGTH_SIZE {
-        return None;
-    }
-    if length <= from {
+    if from < object::LENGTH_SIZE || length <= from {
         return None;
     }
     let at = object::string_table(h) + from;
@@ -56,26 +53,34 @@ fn long_run(f: &[u8], h: Header, offset: u64) -> Option<Name>
     }
 }
 
+// In the field itself.
+fn short_run(f: &[u8], at: usize) -> Name
+    requires { at < 2 ^ 38 }
+    ensures { Some result ≡ short_run f.now at }
+{
+    Name {
+        at,
+        length: run(f, at, object::NAME_SIZE),
+    }
+}
+
+#[tactic(auto, using(util::specs::Pick::picks), unfolding(crate::specs::Name::symbol_run))]
 fn symbol_run(f: &[u8], h: Header, at: usize) -> Option<Name>
     requires { at < 2 ^ 38 }
     ensures { result ≡ symbol_run f.now h at }
 {
-    let long = le::u32_at(f, at) == 0;
-    if long {
-        return long_run(f, h, le::u32_at(f, at + object::LONG_OFFSET_AT) as u64);
+    if le::u32_at(f, at) == 0 {
+        return long_run(f, h, u64::from(le::u32_at(f, at + object::LONG_OFFSET_AT)));
     }
-    let empty = le::byte_at(f, at) == 0;
-    if empty {
+    if le::byte_at(f, at) == 0 {
         None
     } else {
-        Some(Name {
-            at,
-            length: run(f, at, object::NAME_SIZE),
-        })
+        Some(short_run(f, at))
     }
 }
 
 // A slash and one to seven digits: the offset of the name in the string table.
+#[tactic(auto, using(util::specs::Pick::picks, le::specs::Le::part_most), unfolding(crate::specs::Name::slash_offset))]
 fn offset_at(f: &[u8], at: usize) -> Option<u64>
     requires { at < 2 ^ 38 }
     ensures { result ≡ slash_offset f.now at }
@@ -99,48 +104,44 @@ pub fn slash_offset(f: &[u8], h: Header, i: u32) -> Option<u64>
     offset_at(f, object::section_header_at(h, i))
 }
 
+#[tactic(auto, using(crate::proofs::SlashLaws::slash_is), unfolding(crate::specs::Name::slash_by))]
 fn slash_run(f: &[u8], h: Header, at: usize) -> Option<Name>
     requires { at < 2 ^ 38 }
     ensures { result ≡ slash_run f.now h at }
 {
-    match offset_at(f, at) {
-        Some(o) => long_run(f, h, o),
-        None => None,
-    }
+    long_run(f, h, offset_at(f, at)?)
 }
 
+#[tactic(auto, using(util::specs::Pick::picks), unfolding(crate::specs::Name::section_run))]
 fn section_run(f: &[u8], h: Header, at: usize) -> Option<Name>
     requires { at < 2 ^ 38 }
     ensures { result ≡ section_run f.now h at }
 {
-    let slash = le::byte_at(f, at) == SLASH;
-    if slash {
+    if le::byte_at(f, at) == SLASH {
         slash_run(f, h, at)
     } else {
-        Some(Name {
-            at,
-            length: run(f, at, object::NAME_SIZE),
-        })
+        Some(short_run(f, at))
     }
 }
 
-// A name whose bytes obey the rule.
-fn checked<F: Fn(&[u8]) -> bool>(f: &[u8], name: Option<Name>, rule: F) -> Option<Name> {
-    name.filter(|n| rule(le::part(f, n.at, n.length)))
-}
-
 // The name of section i.
+#[tactic(auto, using(util::specs::Pick::picks), unfolding(crate::specs::Name::checked))]
 pub fn section_name(f: &[u8], h: Header, i: u32) -> Option<Name>
     ensures { result ≡ section_name f.now h i }
 {
-    checked_section(f, section_run(f, h, object::section_header_at(h, i)))
+    section_run(f, h, object::section_header_at(h, i)).filter(|n| chars::good_section_name(le::part(
+        f, n.at, n.length,
+    )))
 }
 
 // The name of symbol j.
+#[tactic(auto, using(util::specs::Pick::picks), unfolding(crate::specs::Name::checked))]
 pub fn symbol_name(f: &[u8], h: Header, j: u32) -> Option<Name>
     ensures { result ≡ symbol_name f.now h j }
 {
-    checked_symbol(f, symbol_run(f, h, object::symbol_record_at(h, j)))
+    symbol_run(f, h, object::symbol_record_at(h, j)).filter(|n| chars::good_symbol_name(le::part(
+        f, n.at, n.length,
+    )))
 }
 
 // Where a name starts in the file.
@@ -176,19 +177,18 @@ pub fn is_good(name: Option<Name>) -> bool
 }
 
 // What a table of `length` bytes has from `offset` on, behind its length field.
+#[tactic(auto, using(util::specs::Pick::picks), unfolding(crate::specs::Name::left_from))]
 fn left_from(length: u32, offset: u32) -> usize
     ensures { result ≡ left_from length offset }
 {
     let from = offset as usize;
-    if from < object::LENGTH_SIZE {
-        return 0;
-    }
-    if length <= offset {
+    if from < object::LENGTH_SIZE || length <= offset {
         return 0;
     }
     (length - offset) as usize
 }
 
+#[tactic(auto, using(util::specs::Pick::picks), unfolding(crate::specs::Name::long_span))]
 fn long_span(f: &[u8], h: Header, offset: u32) -> Span
     ensures { result ≡ long_span f.now h offset }
 {
@@ -200,12 +200,12 @@ fn long_span(f: &[u8], h: Header, offset: u32) -> Span
 }
 
 // Where symbol j's name stands.
+#[tactic(auto, using(util::specs::Pick::picks), unfolding(crate::specs::Name::span_at))]
 pub fn symbol_span(f: &[u8], h: Header, j: u32) -> Span
     ensures { result ≡ symbol_span f.now h j }
 {
     let at = object::symbol_record_at(h, j);
-    let long = le::u32_at(f, at) == 0;
-    if long {
+    if le::u32_at(f, at) == 0 {
         long_span(f, h, le::u32_at(f, at + object::LONG_OFFSET_AT))
     } else {
         Span {
@@ -213,12 +213,6 @@ pub fn symbol_span(f: &[u8], h: Header, j: u32) -> Span
             most: object::NAME_SIZE,
         }
     }
-}
-
-fn least(a: usize, b: usize) -> usize
-    ensures { result ≡ min a b }
-{
-    if a < b { a } else { b }
 }
 
 // No bytes.
@@ -229,28 +223,23 @@ fn no_span() -> Span
 }
 
 // By the digits behind a slash.
+#[tactic(auto, using(util::specs::Pick::picks), unfolding(crate::specs::Name::slash_span))]
 fn slash_span(f: &[u8], h: Header, digits: Option<u64>) -> Span
     ensures { result ≡ slash_span f.now h digits }
 {
     match digits {
-        Some(o) => {
-            if o < object::string_length(f, h) as u64 {
-                long_span(f, h, o as u32)
-            } else {
-                no_span()
-            }
-        }
-        None => no_span(),
+        Some(o) if o < u64::from(object::string_length(f, h)) => long_span(f, h, o as u32),
+        _ => no_span(),
     }
 }
 
 // Where section i's name stands.
+#[tactic(auto, using(util::specs::Pick::picks), unfolding(crate::specs::Name::section_span_at))]
 pub fn section_span(f: &[u8], h: Header, i: u32) -> Span
     ensures { result ≡ section_span f.now h i }
 {
     let at = object::section_header_at(h, i);
-    let slash = le::byte_at(f, at) == SLASH;
-    if slash {
+    if le::byte_at(f, at) == SLASH {
         slash_span(f, h, offset_at(f, at))
     } else {
         Span {
@@ -261,9 +250,10 @@ pub fn section_span(f: &[u8], h: Header, i: u32) -> Span
 }
 
 // Of a name that stands there: the first bytes tell whether it is UNDEF.
+#[tactic(auto, using(crate::proofs::Laws::undef_is))]
 pub fn is_undef_at(f: &[u8], s: Span) -> bool
     ensures { result ≡ are_same_bytes (span_text f.now s) UNDEF }
 {
-    let most = least(s.most, UNDEF_ROOM);
+    let most = s.most.min(UNDEF_ROOM);
     is_undef(le::part(f, s.at, run(f, s.at, most)))
 }

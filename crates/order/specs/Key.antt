@@ -1,5 +1,5 @@
 -- A name's key: its first bytes as one number.
-use Rattle.std.specs.Ordering.{Ordering, Less, Greater}
+use Rattle.std.proofs.Common.{Ordering, Less, Greater}
 use Rattle.std.specs.Prelude.{List, [], ◌∷◌, ℕ, zero, suc, ◌+◌, ◌*◌, ◌^◌, ltb}
 use Rattle.util.specs.Pick.{pick}
 

@@ -1,5 +1,5 @@
 -- Key order is name order: two names without a zero byte are in the order of their keys, and where these are equal of what follows.
-use Rattle.std.specs.Ordering.{Ordering, Less, Greater}
+use Rattle.std.proofs.Common.{Ordering, Less, Greater}
 use Rattle.std.specs.Prelude.{◌≡◌, refl, List, [], ◌∷◌, ℕ, zero, suc, ◌+◌, ◌*◌, ◌^◌, ◌≤◌, ◌<◌, length, get_or, drop}
 use Rattle.std.proofs.Common.{sym, ◌∙◌, ⊎_elim, suc-mul, mul-le-mul_right, mul-pos, arith}
 use Rattle.std.proofs.Math.Nat.{pow-succ'}

@@ -1,6 +1,6 @@
 -- The sections of a file in order of their names. A search for a name (01, "Layout, slots and fixups") takes the first loaded section that has it, so of
 -- equal ones the loaded stand first, and of those the lower number.
-use Rattle.std.specs.Ordering.{Ordering, Less, Equal, Greater}
+use Rattle.std.proofs.Common.{Ordering, Less, Equal, Greater}
 use Rattle.std.specs.Prelude.{◌≡◌, Bool, true, false, List, [], ◌∷◌, ℕ, ◌<◌, ◌≤◌, eqb, ltb, leb, length, get_or}
 use Rattle.util.specs.Pick.{pick}
 use Rattle.util.specs.Prefix.{list_to}

@@ -1,6 +1,6 @@
 -- A search in halves for a key among sections that stand in order, whatever the key is: it ends where the lower keys do, and there stands the first of
 -- those that have the key.
-use Rattle.std.specs.Ordering.{Ordering, Less, Equal, Greater}
+use Rattle.std.proofs.Common.{Ordering, Less, Equal, Greater}
 use Rattle.std.specs.Prelude.{◌≡◌, Bool, List, ℕ, ◌+◌, ◌-◌, ◌/◌, ◌≤◌, ◌<◌, length, get_or}
 use Rattle.std.proofs.Math.Path.{refl, sym, ap}
 use Rattle.std.proofs.Common.{◌∙◌, ⊎_elim}
