@@ -172,8 +172,8 @@ pub fn range_length(f: &[u8], h: Header, i: u32) -> u64
 pub fn is_extended(f: &[u8], h: Header, i: u32) -> bool
     ensures { result ≡ extended f.now h i }
 {
-    section_flags(f, h, i) & kinds::LNK_NRELOC_OVFL != 0
-        && relocation_field(f, h, i) == OVERFLOW_COUNT
+    let count = relocation_field(f, h, i);
+    section_flags(f, h, i) & kinds::LNK_NRELOC_OVFL != 0 && count == OVERFLOW_COUNT
 }
 
 // How many records stand at the relocation pointer, the one with the count included.
