@@ -172,8 +172,8 @@ pub fn range_length(f: &[u8], h: Header, i: u32) -> u64
 pub fn is_extended(f: &[u8], h: Header, i: u32) -> bool
     ensures { result ≡ extended f.now h i }
 {
-    let count = relocation_field(f, h, i);
-    section_flags(f, h, i) & kinds::LNK_NRELOC_OVFL != 0 && count == OVERFLOW_COUNT
+    section_flags(f, h, i) & kinds::LNK_NRELOC_OVFL != 0
+        && relocation_field(f, h, i) == OVERFLOW_COUNT
 }
 
 // How many records stand at the relocation pointer, the one with the count included.
@@ -189,14 +189,13 @@ pub fn relocation_records(f: &[u8], h: Header, i: u32) -> u32
 }
 
 // How many relocations the section has.
-#[tactic(auto, unfolding(crate::specs::Section::relocation_count, util::specs::Pick::pick))]
+#[tactic(auto, unfolding(crate::specs::Section::relocation_count, crate::specs::Section::relocation_records, util::specs::Pick::pick))]
 pub fn relocation_count(f: &[u8], h: Header, i: u32) -> u32
     ensures { result ≡ relocation_count f.now h i }
 {
-    let n = relocation_records(f, h, i);
     if is_extended(f, h, i) {
-        n.saturating_sub(1)
+        le::u32_at(f, relocation_pointer(f, h, i) as usize).saturating_sub(1)
     } else {
-        n
+        u32::from(relocation_field(f, h, i))
     }
 }
