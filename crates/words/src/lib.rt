@@ -1,10 +1,10 @@
 // Records of whole words, eight bytes each, the low byte first. A word that would begin past the end is left out.
 #![tactic(auto)]
 
-ghost use Rattle.std.specs.Prelude.{◌≡◌, ◌+◌, ◌-◌, ◌*◌, ◌/◌, ◌≤◌, min, leb, length};
+ghost use Rattle.std.specs.Prelude.{◌≡◌, ◌+◌, ◌-◌, ◌*◌, ◌/◌, ◌^◌, ◌<◌, ◌≤◌, min, leb, length};
 ghost use Rattle.limits.specs.Records.{WORD};
 ghost use Rattle.le.specs.Le.{le, splice};
-ghost use Rattle.words.specs.Words.{word_bytes};
+ghost use Rattle.words.specs.Words.{word_bytes, word_of};
 
 use limits::WORD;
 
@@ -53,4 +53,13 @@ pub fn put(b: &mut [u8], at: usize, ws: &[u64])
     } else {
         put_room(b, at, ws);
     }
+}
+
+// Word w of record r, where a record has `width` words; 0 past the end.
+#[tactic(auto, unfolding(crate::specs::Words::word_of))]
+pub fn word(table: &[u8], width: u8, r: usize, w: u8) -> u64
+    requires { WORD * (width * r + w) < 2 ^ 64 }
+    ensures { result ≡ word_of width table.now r w }
+{
+    le::u64_at(table, WORD * (usize::from(width) * r + usize::from(w)))
 }
