@@ -7,4 +7,12 @@ pub loop-i-init : goal.loop-i-init
 loop-i-init c = record { room = omega arith; kept = search (rules, kept_none); spent = search (rules, spends_none); list = search (rules, externs_none) }
 
 pub loop-i-preserved : goal.loop-i-preserved
-loop-i-preserved c = record { room = search (rules, count_room); kept = search (rules, externs_kept); spent = search (rules, externs_spent); list = search (rules, externs_more) }
+loop-i-preserved c =
+    let held = c.loop-i.invariant in
+    let now = c.add_records.ensures in
+    record {
+      room = search (rules, count_room);
+      kept = externs_kept _ _ _ _ _ _ _ _ _ _ _ _ held.kept held.spent held.list now.holds _ c.in_ok-count.was now.left_for;
+      spent = externs_spent _ _ _ _ _ _ _ _ _ _ _ _ held.kept held.spent held.list now.holds _ c.in_ok-count.was now.left_for;
+      list = externs_more _ _ _ _ _ _ _ _ _ _ _ _ held.kept held.spent held.list now.holds _ c.in_ok-count.was;
+    }
