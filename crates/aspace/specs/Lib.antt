@@ -1,2 +1,3 @@
 pub mod Space
 pub mod SpaceLaws
+pub mod Places

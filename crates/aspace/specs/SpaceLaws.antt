@@ -58,7 +58,7 @@ module _ (size : ℕ) (marks : List ℕ) (base a n o : ℕ) (fits : size < 2 ^ 6
   offset_there = there_by (reached base a n) refl
 
 -- ---- a refusal leaves the same, whatever would have been written
-pub leaves_same : {A : Type 0} (code : ℕ) (old new other x : A) (r : Code) → (code ≡ 0 → new ≡ other) → Leaves code old new x r → Leaves code old other x r
+pub leaves_same : {A : Type 0} (code : Code) (old new other x : A) (r : Code) → ((u : Unit) → code ≡ Ok u → new ≡ other) → Leaves code old new x r → Leaves code old other x r
 unfolding unless_refused
-leaves_same zero old new other x r e l = record { says = l.says; leaves = l.leaves ∙ e refl }
-leaves_same (suc k) old new other x r e l = record { says = l.says; leaves = l.leaves }
+leaves_same (Ok u) old new other x r e l = record { says = l.says; leaves = l.leaves ∙ e u refl }
+leaves_same (Err k) old new other x r e l = record { says = l.says; leaves = l.leaves }

@@ -1,7 +1,10 @@
-// Reading in the relative space, by offset from the base, in the absolute one, by address, and from a slice's start, over the pages of
-// lent storage; from aspace.rs. A function for each space stands for the Rust's traits. The crate `write` writes, `strings` reads strings.
+// Reading over the pages of lent storage, by offset from the base, by address, and from a slice's start; from aspace.rs. The trait `Place` stands
+// for the Rust's traits of spaces: each reader takes any place. The crate `write` writes, `strings` reads strings.
 #![tactic(auto)]
 
 pub mod absolute;
-pub mod relative;
-pub mod sliced;
+mod place;
+mod reading;
+
+pub use place::{Absolute, Place, Sliced};
+pub use reading::{find, read_bytes, read_into, read_number, read_pointer};

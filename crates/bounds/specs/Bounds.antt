@@ -1,6 +1,6 @@
 -- Refusals 1 to 5: each says that the refusal of its number is not given, of the whole file (01, "Survey"). A check is asked only where those
 -- before it passed; past the file a record reads as zeros.
-use Rattle.std.specs.Prelude.{Bool, ◌&&◌, ◌||◌, not, List, ℕ, ◌+◌, ◌*◌, length, leb, eqb}
+use Rattle.std.specs.Prelude.{Bool, ◌&&◌, ◌||◌, not, List, ℕ, ◌+◌, ◌*◌, length, leb, eqb, is_ok}
 use Rattle.util.specs.Prefix.{all_to, sum_to}
 use Rattle.limits.specs.Limits.{MAX_FILE, MAX_SECTIONS, MAX_SYMBOLS, MAX_RELOCATIONS}
 use Rattle.arch.specs.Machine.{arch_of, machine_refusal}
@@ -19,7 +19,7 @@ size_ok f = leb HEADER_SIZE (length f) && leb (length f) MAX_FILE
 
 -- 2: the header's machine is i386 or x64
 abbrev pub machine_ok : Header → Bool
-machine_ok h = eqb (machine_refusal (arch_of h.machine)) 0
+machine_ok h = is_ok (machine_refusal (arch_of h.machine))
 
 -- 3: not too many sections, and their table lies in the file
 unfoldable pub section_table_ok : List ℕ → Header → Bool

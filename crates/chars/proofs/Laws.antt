@@ -1,11 +1,12 @@
 -- The ways through the code. Assumes nothing.
 use mathlib.Core.Path.{◌≡◌, refl, sym, ap, ◌∙◌}
 use mathlib.Core.Bool.{Bool, true, false, ◌&&◌, not}
-use mathlib.Core.List.{List}
+use mathlib.Core.List.{List, [], ◌∷◌}
+use Rattle.std.specs.Prelude.{fold}
+use Rattle.std.proofs.Math.Bool.{and-true, and_assoc}
 use mathlib.Core.Logic.{inl, inr, ⊎_elim}
 use Prim.Native.Nat.{ℕ, zero, suc, ◌+◌, ◌-◌, ◌≤◌, ◌<◌, ◌^◌, min}
 use native.Mathlib.Omega.{arith}
-use native.Mathlib.Numerals.{add-one}
 use borrow.Author.Tests.{not-true, not-false}
 use lib.ListN.{length, get_or, take, drop, length-take, length-drop}
 use lib.Seq.{take_all}
@@ -19,22 +20,20 @@ use Rattle.chars.specs.WalkLaws.{VisibleTo, VisibleRun, is_char, low_no_char, pa
 use Rattle.chars.specs.GoodLaws.{section_walk, symbol_walk}
 
 -- ---- eight bytes at once
-module _ (s : List ℕ) where
-  abbrev pub seen : ℕ → Bool
-  seen k = visible (get_or s k 0)
+all_front : (p : ℕ → Bool) (n : ℕ) → all_to p (suc n) ≡ p 0 && all_to (λ k. p (suc k)) n
+unfolding all_to
+all_front p zero = sym (and-true (p 0))
+all_front p (suc n) = rw (all_front p n) (and_assoc (p 0) (all_to (λ k. p (suc k)) n) (p (suc n)))
 
-  pub eight_none : true ≡ all_to seen 0
-  unfolding all_to
-  eight_none = refl
+fold_on : (a : Bool) (s : List ℕ) → fold (λ ok b. ok && visible b) a s ≡ a && all_visible s
+unfolding all_to
+fold_on a [] = sym (and-true a)
+fold_on a (b ∷ s) =
+    fold_on (a && visible b) s
+    ∙ (and_assoc a (visible b) (all_visible s) ∙ ap (λ (r : Bool). a && r) (sym (all_front (λ k. visible (get_or (b ∷ s) k 0)) (length s))))
 
-  pub eight_more : (k : ℕ) (a b r : Bool) → a ≡ all_to seen k → b ≡ visible (get_or s k 0) → r ≡ (a && b) → r ≡ all_to seen (k + 1)
-  unfolding all_to
-  eight_more k a b r e d q = rw (add-one, ← e, ← d) q
-
-  pub eight_all : (k : ℕ) (a : Bool) → a ≡ all_to seen k → k ≤ EIGHT → EIGHT ≤ k → length s ≡ EIGHT → a ≡ all_visible s
-  eight_all k a e p q l = let z : k ≡ length s = omega arith in rw (← z) e
-
-pub ruleset eight_loop = (eight_none, eight_more, eight_all)
+pub fold_visible : (s : List ℕ) → fold (λ ok b. ok && visible b) true s ≡ all_visible s
+fold_visible s = fold_on true s
 
 module _ (t : List ℕ) (i e : ℕ) where
   pub visible_none : i ≤ e → VisibleTo t i e i
@@ -44,11 +43,11 @@ module _ (t : List ℕ) (i e : ℕ) where
   leap_fits k p l room = let a = p.behind in let b = room (omega arith) in omega arith
 
   -- of the eight from k on
-  pub visible_more : (k : ℕ) (r : Bool) → VisibleTo t i e k → ENOUGH ≤ e - k → r ≡ all_visible (take (k + EIGHT - k) (drop k t)) → not r ≡ false → (i < e → e ≤ length t) → VisibleTo t i e (k + EIGHT)
+  pub visible_more : (k : ℕ) (r : Bool) → VisibleTo t i e k → ENOUGH ≤ e - k → r ≡ all_visible (take (k + EIGHT - k) (drop k t)) → r ≡ true → (i < e → e ≤ length t) → VisibleTo t i e (k + EIGHT)
   unfolding part
   visible_more k r p l v z room =
       let n : k + EIGHT - k ≡ EIGHT = omega arith in
-      let y : all_visible (take EIGHT (drop k t)) ≡ true = sym (rw n at v) ∙ not-false r z in
+      let y : all_visible (take EIGHT (drop k t)) ≡ true = sym (rw n at v) ∙ z in
       let inside = leap_fits k p l room in
       let w : length (take EIGHT (drop k t)) ≡ EIGHT = rw (length-take, length-drop) (omega arith) in
       record {

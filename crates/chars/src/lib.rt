@@ -2,7 +2,7 @@
 #![tactic(auto)]
 
 ghost use Rattle.std.specs.Prelude.{◌≡◌, false, ◌+◌, ◌≤◌, ◌<◌, length, get_or};
-ghost use Rattle.chars.specs.Chars.{EIGHT, visible, all_visible, good_section_name, good_symbol_name, walk, stop};
+ghost use Rattle.chars.specs.Chars.{visible, all_visible, good_section_name, good_symbol_name, walk, stop};
 ghost use Rattle.chars.specs.WalkLaws.{VisibleTo, VisibleRun};
 
 // How many bytes one look takes, and how many must be left for it: a name in its field is too short to gain by it.
@@ -17,55 +17,46 @@ const FIRST: u8 = 0xC2;
 fn is_visible(b: u8) -> bool
     ensures { result ≡ visible b }
 {
-    util::both(0x21 <= b, b <= 0x7E)
+    matches!(b, 0x21..=0x7E)
 }
 
-// Each of eight bytes is visible; without a way out between them they are compared at once.
-fn eight_visible(s: &[u8]) -> bool
-    requires { length s.now ≡ EIGHT }
+// Each of these bytes is visible; without a way out between them eight are compared at once.
+fn all_visible(s: &[u8]) -> bool
     ensures { result ≡ all_visible s.now }
 {
-    let mut ok = true;
-    let mut k: usize = 0;
-    while k < EIGHT {
-        ok = util::both(ok, is_visible(s[k]));
-        k += 1;
-    }
-    ok
+    s.iter().fold(true, |ok, b| ok & is_visible(*b))
 }
 
 // From i on, behind as many bytes before e as are visible eight by eight.
+#[tactic(auto, using(crate::proofs::Laws::leap_loop))]
 fn leap(t: &[u8], i: usize, e: usize) -> usize
     requires { (i ≤ e) × (i < e → e ≤ length t.now) }
     ensures { VisibleTo t.now i e result }
 {
+    // An index: it stops where fewer than ENOUGH are left, which is more than one look takes.
     let mut k = i;
-    while ENOUGH <= e - k {
-        let to = k + EIGHT;
-        if !eight_visible(&t[k..to]) {
-            return k;
-        }
-        k = to;
+    while ENOUGH <= e - k && all_visible(&t[k..k + EIGHT]) {
+        k += EIGHT;
     }
     k
 }
 
 // From i on, behind the visible bytes before e, byte by byte.
+#[tactic(auto, using(crate::proofs::Laws::run_loop))]
 fn visible_by_one(t: &[u8], i: usize, e: usize) -> usize
     requires { (i ≤ e) × (i < e → e ≤ length t.now) }
     ensures { VisibleRun t.now i e result }
 {
-    let mut k = i;
-    while k < e {
+    for k in i..e {
         if !is_visible(t[k]) {
             return k;
         }
-        k += 1;
     }
-    k
+    e
 }
 
 // The same, in a list that may be long.
+#[tactic(auto, using(crate::proofs::Laws::run_parts))]
 fn visible_to(t: &[u8], i: usize, e: usize) -> usize
     requires { (i ≤ e) × (i < e → e ≤ length t.now) }
     ensures { VisibleRun t.now i e result }
@@ -74,40 +65,41 @@ fn visible_to(t: &[u8], i: usize, e: usize) -> usize
 }
 
 // Behind the characters of a symbol's name that follow one another from i on and begin before e.
+#[tactic(auto, using(crate::proofs::Laws::on_loop))]
 fn walk_on(t: &[u8], i: usize, e: usize) -> usize
     requires { i < e → e ≤ length t.now }
     ensures { result ≡ walk false t.now e i }
 {
+    // An index: a turn passes a run of bytes or a character of several.
     let mut k = i;
     while k < e {
         if is_visible(t[k]) {
             k = visible_to(t, k, e);
         } else {
-            let c = utf8::long_char(&t[k..]);
-            if c == 0 {
-                return k;
+            match utf8::long_char(&t[k..]) {
+                0 => return k,
+                c => k += c,
             }
-            k += c;
         }
     }
     k
 }
 
 // The same of any name, from where its visible bytes end: most have no others.
+#[tactic(auto, using(crate::proofs::Laws::behind_ways))]
 fn walk_behind(t: &[u8], k: usize, e: usize, section: bool) -> usize
     requires { (k < e → e ≤ length t.now) × (k < e → visible (get_or t.now k 0) ≡ false) }
     ensures { result ≡ walk section t.now e k }
 {
-    if e <= k {
-        return k;
+    if e <= k || t[k] < FIRST || section {
+        k
+    } else {
+        walk_on(t, k, e)
     }
-    if t[k] < FIRST {
-        return k;
-    }
-    if section { k } else { walk_on(t, k, e) }
 }
 
 // Behind the characters that follow one another from i on and begin among the n places there; `section` says whose name they are.
+#[tactic(auto, using(crate::proofs::Laws::from_ways))]
 pub fn walk(t: &[u8], i: usize, n: usize, section: bool) -> usize
     ensures { result ≡ walk section t.now (i + n) i }
 {
@@ -116,6 +108,7 @@ pub fn walk(t: &[u8], i: usize, n: usize, section: bool) -> usize
 }
 
 // Where the characters from i on stop.
+#[tactic(auto, using(crate::proofs::Laws::stop_ways))]
 pub fn stop(t: &[u8], i: usize, section: bool) -> usize
     ensures { result ≡ stop section t.now i }
 {
@@ -131,6 +124,7 @@ pub fn stop(t: &[u8], i: usize, section: bool) -> usize
 }
 
 // Where those of a short list stop.
+#[tactic(auto, using(crate::proofs::Laws::from_ways))]
 pub fn stop_short(t: &[u8], section: bool) -> usize
     ensures { result ≡ stop section t.now 0 }
 {
@@ -139,6 +133,7 @@ pub fn stop_short(t: &[u8], section: bool) -> usize
 }
 
 // The rule for a section's name, which may be empty.
+#[tactic(auto, using(crate::specs::GoodLaws::section_walk))]
 pub fn good_section_name(s: &[u8]) -> bool
     ensures { result ≡ good_section_name s.now }
 {
@@ -146,8 +141,9 @@ pub fn good_section_name(s: &[u8]) -> bool
 }
 
 // The rule for a symbol's name, which may not.
+#[tactic(auto, using(crate::specs::GoodLaws::symbol_walk))]
 pub fn good_symbol_name(s: &[u8]) -> bool
     ensures { result ≡ good_symbol_name s.now }
 {
-    util::both(s.len() != 0, s.len() <= stop(s, 0, false))
+    !s.is_empty() && s.len() <= stop(s, 0, false)
 }

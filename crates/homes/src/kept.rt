@@ -13,10 +13,11 @@ pub fn word_start(word: u32) -> RVA
     ensures value { result ≡ rva (word_start word) }
     ensures result_bound { result.0 < 2 ^ 32 }
 {
-    RVA(PAGE_SIZE * ((word % HALF) as u64))
+    RVA(PAGE_SIZE * u64::from(word % HALF))
 }
 
 // Where the home of section i starts, by the words of all sections' homes; 0 where it has none.
+#[tactic(auto, using(crate::proofs::Laws::words))]
 pub fn start_in(homes: &[u32], i: u32) -> RVA
     ensures value { result ≡ rva (start_of (home_in homes.now i)) }
     ensures result_bound { result.0 < 2 ^ 32 }
@@ -25,6 +26,7 @@ pub fn start_in(homes: &[u32], i: u32) -> RVA
 }
 
 // The same, told apart from none.
+#[tactic(auto, using(crate::proofs::Laws::words))]
 pub fn home_in(homes: &[u32], i: u32) -> Option<RVA>
     ensures value { result ≡ home_in homes.now i }
     ensures low { Low result }
@@ -38,13 +40,10 @@ pub fn home_in(homes: &[u32], i: u32) -> Option<RVA>
 }
 
 // The same for a section's number, from 1.
+#[tactic(auto, using(crate::proofs::Laws::words))]
 pub fn home_of_number(homes: &[u32], n: u32) -> Option<RVA>
     ensures value { result ≡ by_number (home_in homes.now) None n }
     ensures low { Low result }
 {
-    if n == 0 {
-        None
-    } else {
-        home_in(homes, n - 1)
-    }
+    home_in(homes, n.checked_sub(1)?)
 }

@@ -12,17 +12,14 @@ use kinds::Place;
 use object::{Header, Symbol};
 
 // Where the home of a place starts.
+#[tactic(auto, using(crate::proofs::Laws::places, crate::proofs::Laws::low_none))]
 fn place_home(homes: &[u32], p: Place) -> Option<RVA>
     ensures value { result ≡ place_home (home_in homes.now) p }
     ensures low { Low result }
 {
     match p {
         Place::In(n) => home_of_number(homes, n),
-        Place::Undefined => None,
-        Place::Common => None,
-        Place::Absolute => None,
-        Place::Nowhere => None,
-        Place::Other => None,
+        _ => None,
     }
 }
 
@@ -30,73 +27,58 @@ fn place_home(homes: &[u32], p: Place) -> Option<RVA>
 fn word_record(word: u32) -> u32
     ensures { result ≡ word_record word }
 {
-    let high = word / HALF;
-    if high == 0 { 0 } else { high - 1 }
+    (word / HALF).saturating_sub(1)
 }
 
+#[tactic(auto, using(crate::proofs::Laws::words))]
 fn record_of_number(homes: &[u32], n: u32) -> u32
     ensures { result ≡ by_number (record_in homes.now) 0 n }
 {
-    if n == 0 {
-        0
-    } else {
-        word_record(le::word_at(homes, (n - 1) as usize))
-    }
+    n.checked_sub(1)
+        .map_or(0, |i| word_record(le::word_at(homes, i as usize)))
 }
 
 // The table record of a place's home; 0 outside the sections.
+#[tactic(auto, using(crate::proofs::Laws::places))]
 pub fn record_of_place(homes: &[u32], p: Place) -> u32
     ensures { result ≡ of_place (record_in homes.now) 0 p }
 {
     match p {
         Place::In(n) => record_of_number(homes, n),
-        Place::Undefined => 0,
-        Place::Common => 0,
-        Place::Absolute => 0,
-        Place::Nowhere => 0,
-        Place::Other => 0,
+        _ => 0,
     }
 }
 
 // Whether a section number has a home, by its sixteen bits: from 0x8000 on it is negative.
+#[tactic(auto, using(crate::proofs::Laws::listed_ways))]
 fn has_home(homes: &[u32], number: u16) -> bool
     ensures { result ≡ is_some (by_number (home_in homes.now) None (pick (ltb number 0x8000) number 0)) }
 {
-    if number == 0 {
-        return false;
-    }
-    if number < 0x8000 {
-        let word = le::word_at(homes, (number - 1) as usize);
-        word != 0
-    } else {
-        false
-    }
+    0 < number && number < 0x8000 && le::word_at(homes, usize::from(number - 1)) != 0
 }
 
 // The record s is a listed symbol's, if `left` auxiliary records stand from it on; its number alone says whether it is in a section.
+#[tactic(auto, using(crate::proofs::Laws::listed_ways))]
 pub fn is_listed(homes: &[u32], left: u8, s: Symbol) -> bool
     ensures { result ≡ (eqb left 0 && is_some (place_home (home_in homes.now) (place_of s))) }
 {
-    let own = left == 0;
-    if own {
-        has_home(homes, s.number)
-    } else {
-        false
-    }
+    left == 0 && has_home(homes, s.number)
 }
 
+#[tactic(auto, unfolding(crate::specs::Listed::offset_from, crate::specs::Home::Low))]
 fn offset_from(home: Option<RVA>, value: u32) -> RVA
     requires { Low home }
     ensures value { result ≡ rva (offset_from home value) }
     ensures result_bound { result.0 < 2 ^ 33 }
 {
     match home {
-        Some(o) => RVA(o.0 + value as u64),
-        None => RVA(value as u64),
+        Some(o) => RVA(o.0 + u64::from(value)),
+        None => RVA(u64::from(value)),
     }
 }
 
 // Where a symbol with that place and listed value is listed.
+#[tactic(auto, using(crate::proofs::Laws::offset_is))]
 pub fn listed_offset(homes: &[u32], p: Place, value: u32) -> RVA
     ensures value { result ≡ rva (offset_from (place_home (home_in homes.now) p) value) }
     ensures result_bound { result.0 < 2 ^ 33 }
@@ -105,23 +87,18 @@ pub fn listed_offset(homes: &[u32], p: Place, value: u32) -> RVA
 }
 
 // How many symbols are listed.
+#[tactic(auto, using(crate::proofs::Laws::total_loop))]
 pub fn listed_total(f: &[u8], h: Header, homes: &[u32]) -> u32
     ensures { result ≡ listed_total f.now h (home_in homes.now) }
 {
-    let n = h.symbols;
-    let mut count: u32 = 0;
-    let mut left: u8 = 0;
-    let mut j: u32 = 0;
-    while j < n {
+    let mut count = 0;
+    let mut left = 0;
+    for j in 0..h.symbols {
         let s = object::read_symbol(f, h, j);
-        let found = is_listed(homes, left, s);
-        left = object::left_by(left, s.auxiliaries);
-        if found {
+        if is_listed(homes, left, s) {
             count += 1;
-            j += 1;
-        } else {
-            j += 1;
         }
+        left = object::left_by(left, s.auxiliaries);
     }
     count
 }

@@ -51,9 +51,9 @@ pub ruleset sections_loop = (sections_none, sections_again, sections_end, sectio
 
 -- ---- slots
 module _ (base undef : ℕ) (image : List ℕ) where
-  pub slot_laid : (e v : ℕ) (x : Option RVA) (o : RVA) (b : List ℕ) → x ≡ offset_plus undef (SLOT_SIZE * e) → x ≡ Some o → v ≡ (base + o.0) % 2 ^ 64 → b ≡ splice image o.0 (le SLOT_SIZE v) → b ≡ slot_step base undef image e
+  pub slot_laid : (e v : ℕ) (x : Option RVA) (o : RVA) (b : List ℕ) → x ≡ offset_plus undef (SLOT_SIZE * e) → x ≡ Some o → b ≡ splice image o.0 (le SLOT_SIZE v) → v ≡ (base + o.0) % 2 ^ 64 → b ≡ slot_step base undef image e
   unfolding slot_step
-  slot_laid e v x o b q t w d =
+  slot_laid e v x o b q t d w =
       let p : undef + SLOT_SIZE * e ≡ o.0 = plus_tells undef (SLOT_SIZE * e) o (sym q ∙ t) in
       let z : base + undef + SLOT_SIZE * e ≡ base + o.0 = omega arith in
       let low : v % 256 ^ 4 ≡ (base + o.0) % 256 ^ 4 = omega arith in

@@ -20,28 +20,28 @@ const MEM_READ: u32 = 0x40000000;
 const MEM_WRITE: u32 = 0x80000000;
 
 // Neither removed nor discardable.
+#[tactic(auto, unfolding(crate::specs::Flags::loaded_by))]
 pub fn loaded_by(x: u32) -> bool
     ensures { result ≡ loaded_by x }
 {
     let removed = x / LNK_REMOVE % 2 == 1;
-    if removed {
-        return false;
-    }
     let discardable = x / MEM_DISCARDABLE % 2 == 1;
-    !discardable
+    !removed && !discardable
 }
 
 // The alignment that a code means: 1 to 14 are powers of two, the others 16.
+#[tactic(auto, using(crate::proofs::Laws::shifted), unfolding(crate::specs::Flags::align_of, util::specs::Pick::pick))]
 pub fn align_of(n: u32) -> u32
     ensures { result ≡ align_of n }
 {
-    if n < 1 {
-        return 16;
+    match n {
+        1..=14 => 1 << (n - 1),
+        _ => 16,
     }
-    if n <= 14 { 1 << (n - 1) } else { 16 }
 }
 
 // Read 1, write 2, execute 4.
+#[tactic(auto, using(crate::proofs::Laws::permissions_sum))]
 pub fn permissions_by(x: u32) -> u32
     ensures { result ≡ permissions_by x }
 {

@@ -20,27 +20,24 @@ next_is at n e r p q =
 next_near : (at n : ℕ) → n < 2 ^ 33 → round_up (at + n) PAGE_SIZE ≤ at + 2 ^ 34
 next_near at n b = let u = up_near (at + n) PAGE_SIZE (omega arith) in omega arith
 
-pub record Next (f : List ℕ) (h : Header) (i at r : ℕ) : Type 0 where
-  pub is : r ≡ next_start f h i at % 2 ^ 64
-  pub near : next_start f h i at ≤ at + 2 ^ 34
-
 module _ (f : List ℕ) (h : Header) (i at : ℕ) (l : Bool) where
-  pub next_loaded : (n e r : ℕ) → l ≡ loaded f h i → l ≡ true → n < 2 ^ 33 → n ≡ range_length f h i → e ≡ (at + n) % 2 ^ 64 → r ≡ round_up e PAGE_SIZE % 2 ^ 64 → Next f h i at r
+  pub loaded_is : (n e r : ℕ) → l ≡ loaded f h i → l ≡ true → n < 2 ^ 33 → n ≡ range_length f h i → e ≡ (at + n) % 2 ^ 64 → r ≡ round_up e PAGE_SIZE % 2 ^ 64 → r ≡ next_start f h i at % 2 ^ 64
   unfolding next_start pick
-  next_loaded n e r q t b p d g = record { is = rw (← q, t, ← p) (next_is at n e r d g); near = rw (← q, t, ← p) (next_near at n b) }
+  loaded_is n e r q t b p d g = rw (← q, t, ← p) (next_is at n e r d g)
 
-  pub next_unloaded : l ≡ loaded f h i → l ≡ false → at < 2 ^ 64 → Next f h i at at
+  pub loaded_near : (n : ℕ) → l ≡ loaded f h i → l ≡ true → n < 2 ^ 33 → n ≡ range_length f h i → next_start f h i at ≤ at + 2 ^ 34
   unfolding next_start pick
-  next_unloaded q t k = record { is = rw (← q, t) (omega arith); near = rw (← q, t) (omega arith) }
+  loaded_near n q t b p = rw (← q, t, ← p) (next_near at n b)
 
-pub ruleset next_ways = (next_loaded, next_unloaded)
+  pub unloaded_is : l ≡ loaded f h i → l ≡ false → at < 2 ^ 64 → at ≡ next_start f h i at % 2 ^ 64
+  unfolding next_start pick
+  unloaded_is q t k = rw (← q, t) (omega arith)
+
+  pub unloaded_near : l ≡ loaded f h i → l ≡ false → next_start f h i at ≤ at + 2 ^ 34
+  unfolding next_start pick
+  unloaded_near q t = rw (← q, t) (omega arith)
+
+pub ruleset next_ways = (loaded_is, loaded_near, unloaded_is, unloaded_near)
 
 -- ---- starts
-module _ (f : List ℕ) (h : Header) where
-  pub start_end : (i at n : ℕ) → at ≡ start_at f h i → i ≤ n → n ≤ i → rva at ≡ rva (start_at f h n)
-  start_end i at n e a b = let z : i ≡ n = omega arith in rw (e, z)
-
-pub ruleset start_loop = (start_none, start_again, start_end)
-
--- ---- table records
-pub ruleset record_loop = (count_none, count_yes, count_no, count_end)
+pub ruleset start_loop = (start_none, start_again)

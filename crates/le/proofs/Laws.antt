@@ -1,141 +1,90 @@
--- What the readers and the writing loops ask. Assumes nothing.
-use mathlib.Core.Path.{◌≡◌, refl, sym, ◌∙◌}
-use mathlib.Core.List.{List, [], ◌∷◌}
-use mathlib.Core.Logic.{⊎_elim}
-use Prim.Native.Nat.{ℕ, zero, suc, ◌+◌, ◌-◌, ◌*◌, ◌/◌, ◌%◌, ◌^◌, ◌≤◌, ◌<◌, min}
-use native.Mathlib.Omega.{arith}
-use native.Mathlib.Nat.{add-zero, pow-suc, pow-zero, div-one, div-div-eq-div-mul, not-suc-le-zero, mul_comm}
-use native.Mathlib.Numerals.{add-one, towards_suc}
-use lib.ListN.{length, get_or, set, take, drop, replicate, length-drop, length-set, length-replicate, drop_of_length-le, get_or-eq_default}
-use lib.Seq.{drop-cons, take_all, take-nil}
+-- What the library's slices and numbers give, in the words of specs/Le.antt. Assumes nothing.
+use Rattle.std.specs.Prelude.{◌≡◌, List, [], ◌∷◌, ◌++◌, ℕ, zero, suc, ◌+◌, ◌-◌, ◌*◌, ◌/◌, ◌%◌, ◌^◌, ◌≤◌, ◌<◌, min, length, get_or, set, take, drop, replicate, refl}
+use Rattle.std.proofs.Common.{sym, ap, ◌∙◌, ⊎_elim, arith, zero-add, suc-add, pow-suc, length-drop, length-take, get_or-drop, subst}
+use Rattle.std.proofs.Math.Nat.{pow-zero, div-one, div-div-eq-div-mul}
+use Rattle.std.proofs.lemmas.List.{take_min, take_all, take-append-drop, take-replicate, length-take-le, length-replicate, drop_all}
+use Rattle.std.proofs.lemmas.List.Edits.{sets, sets-eq}
+use Rattle.std.proofs.Math.Seq.{paste}
+use Rattle.std.specs.Int.{byte_at, byte_worth, bytes_low_first, sum_through}
+use Rattle.std.proofs.lemmas.Slice.{put_mid-paste}
+use Rattle.std.specs.Array.{IsFromFnResultFrom}
+use Rattle.std.specs.Fn.{Called}
+use denote.Param.Members.{Mut}
+use borrow.Rule.Slice.PartMut.{put_mid}
 use Rattle.util.specs.Pick.{le_or_lt}
-use Rattle.le.specs.Le.{get, le, part, splice, splice_past, length_le}
+use Rattle.le.specs.Le.{get, le, part, splice, splice_past, splice_next, splice_long, length_le, length_splice, get_same, part_front}
 
--- ---- the readers: the sum that the code joins
-pub get2 : (l : List ℕ) (at : ℕ) → get 2 l at ≡ get_or l at 0 + 256 * get_or l (at + 1) 0
-unfolding get
-get2 l at = simp towards_suc (omega arith)
+-- ---- parts
+pub front : (s : List ℕ) (n k : ℕ) → k ≡ min n (length s) → take k s ≡ take n s
+front s n k e = rw e (take_min n s)
 
-pub get4 : (l : List ℕ) (at : ℕ) → get 4 l at ≡ get_or l at 0 + 256 * (get_or l (at + 1) 0 + 256 * (get_or l (at + 2) 0 + 256 * get_or l (at + 3) 0))
-unfolding get
-get4 l at = simp towards_suc (omega arith)
+pub rest : (s : List ℕ) (from m : ℕ) → m ≡ min from (length s) → take (length s - m) (drop m s) ≡ drop from s
+rest s from m e =
+    let l = length-drop m s in
+    take_all (length s - m) (drop m s) (omega arith)
+    ∙ ⊎_elim
+    (λ (h : from ≤ length s). let z : m ≡ from = omega arith in rw z)
+    (λ (h : length s < from). drop_all m s (omega arith) ∙ sym (drop_all from s (omega arith)))
+    (le_or_lt from (length s))
 
-pub get4_high : (l : List ℕ) (at : ℕ) → get 4 l (at + 4) ≡ get_or l (at + 4) 0 + 256 * (get_or l (at + 5) 0 + 256 * (get_or l (at + 6) 0 + 256 * get_or l (at + 7) 0))
-unfolding get
-get4_high l at = simp towards_suc (omega arith)
+pub rest_at : (s : List ℕ) (at m k : ℕ) → m ≡ min at (length s) → get_or (take (length s - m) (drop m s)) k 0 ≡ get_or s (at + k) 0
+rest_at s at m k e = rw (rest s at m e, get_or-drop)
 
-pub get8 : (l : List ℕ) (at : ℕ) → get 8 l at ≡ get 4 l at + 4294967296 * get 4 l (at + 4)
-unfolding get
-get8 l at = simp towards_suc (omega arith)
+pub part_is : (s : List ℕ) (from n m k : ℕ) → m ≡ min from (length s) → k ≡ min n (length (take (length s - m) (drop m s)))
+    → take k (take (length s - m) (drop m s)) ≡ part s from n
+unfolding part
+part_is s from n m k e q = front (take (length s - m) (drop m s)) n k q ∙ ap (take n) (rest s from m e)
 
--- past the end a number reads as 0
-pub get_past : (n : ℕ) (l : List ℕ) (at : ℕ) → length l ≤ at → 0 ≡ get n l at
-unfolding get
-get_past zero l at h = refl
-get_past (suc n) l at h =
-    let a : get_or l at 0 ≡ 0 = get_or-eq_default l 0 {n = at} h in
-    let r : 0 ≡ get n l (suc at) = get_past n l (suc at) (omega arith) in
-    omega arith
+pub words_are : (s : List ℕ) (n k : ℕ) → k ≡ min n (length s) → take k s ≡ part s 0 n
+words_are s n k e = front s n k e ∙ sym (part_front s n)
 
--- ---- a run put byte by byte: with i bytes done, the rest of the run goes into what b is now
-pub record Putting (l : List ℕ) (at : ℕ) (vs : List ℕ) (i : ℕ) (b : List ℕ) : Type 0 where
-  pub long : length b ≡ length l
-  pub rest : splice l at vs ≡ splice b (at + i) (drop i vs)
+-- ---- a run in a slice
+-- of the run that begins at `at`, m is where it does, as far as the slice reaches, and k how many of its elements there is room for
+module _ (l : List ℕ) (at : ℕ) (vs : List ℕ) (m k : ℕ) (begins : m ≡ min at (length l)) (fits : k ≡ min (length vs) (length l - m)) where
+  begins_there : splice l m vs ≡ splice l at vs
+  begins_there =
+      ⊎_elim
+      (λ (h : at ≤ length l). let z : m ≡ at = omega arith in rw z)
+      (λ (h : length l < at). splice_past l m vs (omega arith) ∙ sym (splice_past l at vs (omega arith)))
+      (le_or_lt at (length l))
 
-pub put_none : (l : List ℕ) (at : ℕ) (vs : List ℕ) → Putting l at vs 0 l
-put_none l at vs = record { long = refl; rest = rw add-zero }
+  -- what lies past the end is left out
+  front_put : splice l m (take k vs) ≡ splice l m vs
+  front_put =
+      let t : length (take k vs) ≡ k = length-take-le k vs (omega arith) in
+      let z = length_splice l m (take k vs) in
+      ⊎_elim
+      (λ (h : length vs ≤ k). ap (splice l m) (take_all k vs h))
+      (λ (h : k < length vs).
+      sym (splice_past (splice l m (take k vs)) (m + k) (drop k vs) (omega arith))
+      ∙ splice_next l m (take k vs) (drop k vs) (m + k) (omega arith)
+      ∙ ap (splice l m) (take-append-drop k vs))
+      (le_or_lt (length vs) k)
 
-pub put_step : (l : List ℕ) (at : ℕ) (vs : List ℕ) (i : ℕ) (b : List ℕ) (x : ℕ) → Putting l at vs i b → i < length vs → x ≡ get_or vs i 0
-    → Putting l at vs (i + 1) (set b (at + i) x)
-unfolding splice
-put_step l at vs i b x p h e =
-    let f : at + (i + 1) ≡ suc (at + i) = omega arith in
-    record { long = rw length-set p.long; rest = p.rest ∙ rw (f, add-one, drop-cons vs i 0 h, e) }
+  pub run_put : (x : List ℕ) → x ≡ take k vs → put_mid m (m + k - m) l x ≡ splice l at vs
+  unfolding splice
+  run_put x e =
+      let t : length (take k vs) ≡ k = length-take-le k vs (omega arith) in
+      let d : m + k - m ≡ k = omega arith in
+      let w : take k (take k vs) ≡ take k vs = take_all k (take k vs) (omega arith) in
+      let p : put_mid m k l x ≡ paste l m (take k vs) k = put_mid-paste m k l x (take k vs) k e refl (sym t) in
+      let q : sets l m (take k vs) ≡ take m l ++ take k vs ++ drop (m + length (take k vs)) l = sets-eq (take k vs) l m (omega arith) in
+      let r : paste l m (take k vs) k ≡ sets l m (take k vs) = rw (q, t, w) in
+      rw d (p ∙ r ∙ front_put ∙ begins_there)
 
-put_over : (l : List ℕ) (at : ℕ) (vs : List ℕ) (i : ℕ) (b : List ℕ) → Putting l at vs i b → length vs ≤ i → b ≡ splice l at vs
-unfolding splice
-put_over l at vs i b p h = sym (p.rest ∙ rw (drop_of_length-le vs h))
+-- the same of a whole array that fits, and of zeros
+pub array_put : (l : List ℕ) (at : ℕ) (vs : List ℕ) (m n : ℕ) → m ≡ min at (length l) → length vs ≡ n → n ≤ length l - m
+    → put_mid m (m + n - m) l vs ≡ splice l at vs
+array_put l at vs m n b e h = run_put l at vs m n b (omega arith) vs (sym (take_all n vs (omega arith)))
 
-put_full : (l : List ℕ) (at : ℕ) (vs : List ℕ) (i : ℕ) (b : List ℕ) → Putting l at vs i b → length l ≤ at + i → b ≡ splice l at vs
-put_full l at vs i b p h = sym (p.rest ∙ splice_past b (at + i) (drop i vs) (rw p.long h))
+pub zeros_put : (l : List ℕ) (at n m k : ℕ) (x : List ℕ) → m ≡ min at (length l) → k ≡ min n (length l - m) → x ≡ replicate (length (take (m + k - m) (drop m l))) 0
+    → put_mid m (m + k - m) l x ≡ splice l at (replicate n 0)
+zeros_put l at n m k x b f e =
+    let z : length (replicate {A = ℕ} n 0) ≡ n = length-replicate n 0 in
+    let d : length (take (m + k - m) (drop m l)) ≡ k = simp (length-take, length-drop) (omega arith) in
+    run_put l at (replicate n 0) m k b (omega arith) x (e ∙ rw d (sym (take-replicate k n 0 (omega arith))))
 
--- the loop stops where the run ends, or where the buffer does
-pub put_end : (l : List ℕ) (at : ℕ) (vs : List ℕ) (n m i : ℕ) (b : List ℕ) → Putting l at vs i b → m ≡ min n (length l - at) → n ≡ length vs → i ≤ m → m ≤ i → b ≡ splice l at vs
-put_end l at vs n m i b p r e h k =
-    ⊎_elim (λ x. put_over l at vs i b p (omega arith)) (λ x. put_full l at vs i b p (omega arith)) (le_or_lt n m)
-
--- what each run has at i
-pub zero_at : (n i : ℕ) → ◌≡◌ {A = ℕ} 0 (get_or (replicate n 0) i 0)
-zero_at zero i = refl
-zero_at (suc n) zero = refl
-zero_at (suc n) (suc i) = zero_at n i
-
-pub le_at : (n v i : ℕ) → i < n → v / 256 ^ i % 256 ≡ get_or (le n v) i 0
-unfolding le
-le_at zero v i h = absurd (not-suc-le-zero h)
-le_at (suc n) v zero h = rw (pow-zero, div-one)
-le_at (suc n) v (suc i) h =
-    let e : v / 256 ^ suc i ≡ v / 256 / 256 ^ i = rw (pow-suc, mul_comm (256 ^ i) 256) (sym (div-div-eq-div-mul v 256 (256 ^ i))) in
-    rw e (le_at n (v / 256) i (omega arith))
-
-pub le_rest : (v i w : ℕ) → w ≡ v / 256 ^ i → w / 256 ≡ v / 256 ^ (i + 1)
-le_rest v i w e = rw (e, add-one, pow-suc) (div-div-eq-div-mul v (256 ^ i) 256)
-
-pub le_begin : (v : ℕ) → v ≡ v / 256 ^ 0
-le_begin v = rw (pow-zero, div-one)
-
--- ---- the loops' own forms
-module _ (l : List ℕ) (at i : ℕ) (b : List ℕ) where
-  pub zero_none : (n : ℕ) → Putting l at (replicate n 0) 0 l
-  zero_none n = put_none l at (replicate n 0)
-
-  pub zero_step : (n m : ℕ) → Putting l at (replicate n 0) i b → i < m → m ≡ min n (length l - at) → Putting l at (replicate n 0) (i + 1) (set b (at + i) 0)
-  zero_step n m p h r = put_step l at (replicate n 0) i b 0 p (rw length-replicate (omega arith)) (zero_at n i)
-
-  pub zero_end : (n m : ℕ) → Putting l at (replicate n 0) i b → m ≡ min n (length l - at) → i ≤ m → m ≤ i → b ≡ splice l at (replicate n 0)
-  zero_end n m p r h k = put_end l at (replicate n 0) n m i b p r (sym (length-replicate n 0)) h k
-
-  pub copy_step : (s : List ℕ) (m : ℕ) → Putting l at s i b → i < m → m ≡ min (length s) (length l - at) → Putting l at s (i + 1) (set b (at + i) (get_or s i 0))
-  copy_step s m p h r = put_step l at s i b (get_or s i 0) p (omega arith) refl
-
-  pub copy_end : (s : List ℕ) (m : ℕ) → Putting l at s i b → m ≡ min (length s) (length l - at) → i ≤ m → m ≤ i → b ≡ splice l at s
-  copy_end s m p r h k = put_end l at s (length s) m i b p r refl h k
-
-  pub le_step : (n v m w : ℕ) → Putting l at (le n v) i b → i < m → m ≡ min n (length l - at) → w ≡ v / 256 ^ i → Putting l at (le n v) (i + 1) (set b (at + i) (w % 256))
-  le_step n v m w p h r e = put_step l at (le n v) i b (w % 256) p (rw length_le (omega arith)) (rw e (le_at n v i (omega arith)))
-
-  pub le_end : (n v m : ℕ) → Putting l at (le n v) i b → m ≡ min n (length l - at) → i ≤ m → m ≤ i → b ≡ splice l at (le n v)
-  le_end n v m p r h k = put_end l at (le n v) n m i b p r (sym (length_le n v)) h k
-
--- a loop's place lies within, and does not wrap
-pub in_room : (len at n m i : ℕ) → m ≡ min n (len - at) → i < m → at + i < len
-in_room len at n m i r h = omega arith
-
-pub ruleset putting = (put_none, zero_step, zero_end, copy_step, copy_end, le_step, le_end, le_rest, le_begin)
-
--- ---- a part, within the list, up to its end, and past it
-module _ (s : List ℕ) (from n : ℕ) where
-  pub part_here : (to : ℕ) → to ≡ from + n → take (to - from) (drop from s) ≡ part s from n
-  unfolding part
-  part_here to e = let d : to - from ≡ n = omega arith in rw d
-
-  pub part_rest : length s - from ≤ n → take (length s - from) (drop from s) ≡ part s from n
-  unfolding part
-  part_rest h = take_all (length s - from) (drop from s) (simp length-drop (omega arith)) ∙ sym (take_all n (drop from s) (simp length-drop h))
-
-  pub part_past : length s ≤ from → [] ≡ part s from n
-  unfolding part
-  part_past h = rw (drop_of_length-le s h) (sym (take-nil n))
-
-pub front_here : (s : List ℕ) (n : ℕ) → take (n - 0) (drop 0 s) ≡ part s 0 n
-front_here s n = part_here s 0 n n (omega arith)
-
-pub front_all : (s : List ℕ) (n : ℕ) → length s ≤ n → take (length s - 0) (drop 0 s) ≡ part s 0 n
-front_all s n h = part_rest s 0 n (omega arith)
-
-pub ruleset parts = (part_here, part_rest, part_past, front_here, front_all)
-
--- ---- one byte
+-- ---- one element
 module _ (l : List ℕ) (at v : ℕ) where
   pub byte_in : set l at v ≡ splice l at (v ∷ [])
   unfolding splice
@@ -145,3 +94,101 @@ module _ (l : List ℕ) (at v : ℕ) where
   byte_past h = sym (splice_past l at (v ∷ []) h)
 
 pub ruleset bytes_put = (byte_in, byte_past)
+
+-- ---- a number's bytes
+byte_is : (i v : ℕ) → byte_at i v ≡ v / 256 ^ i % 256
+byte_is zero v = rw (pow-zero, div-one)
+byte_is (suc i) v = refl
+
+next_byte : (i v : ℕ) → v / 256 ^ i / 256 ≡ v / 256 ^ suc i
+next_byte i v = rw pow-suc (div-div-eq-div-mul v (256 ^ i) 256)
+
+bytes_from : (n i v : ℕ) → bytes_low_first i n v ≡ le n (v / 256 ^ i)
+unfolding le
+bytes_from zero i v = refl
+bytes_from (suc n) i v = rw (byte_is i v, next_byte i v) (ap (λ (l : List ℕ). v / 256 ^ i % 256 ∷ l) (bytes_from n (suc i) v))
+
+bytes_are : (n v : ℕ) → bytes_low_first 0 n v ≡ le n v
+bytes_are n v = bytes_from n 0 v ∙ rw (pow-zero, div-one)
+
+-- the n low bytes of a number are the first of more of them, and past those that it has they are 0
+le_front : (n m v : ℕ) → n ≤ m → take n (le m v) ≡ le n v
+unfolding le
+le_front zero m v h = refl
+le_front (suc n) zero v h = absurd (omega arith)
+le_front (suc n) (suc m) v h = ap (λ (l : List ℕ). v % 256 ∷ l) (le_front n m (v / 256) (omega arith))
+
+le_zero : (n : ℕ) → le n 0 ≡ replicate n 0
+unfolding le
+le_zero zero = refl
+le_zero (suc n) = ap (λ (l : List ℕ). 0 ∷ l) (le_zero n)
+
+le_more : (m n v : ℕ) → v < 256 ^ m → le (m + n) v ≡ le m v ++ replicate n 0
+unfolding le
+le_more zero n v h = let z : v ≡ 0 = omega arith in rw (zero-add, z) (le_zero n)
+le_more (suc m) n v h =
+    let e : 256 ^ suc m ≡ 256 ^ m * 256 = pow-suc _ _ in
+    rw suc-add (ap (λ (l : List ℕ). v % 256 ∷ l) (le_more m n (v / 256) (omega arith)))
+
+-- such a number's bytes, put
+module _ (l : List ℕ) (at n v : ℕ) where
+  pub number_put : (b x : List ℕ) → x ≡ bytes_low_first 0 n v → b ≡ splice l at x → b ≡ splice l at (le n v)
+  number_put b x e d = d ∙ ap (splice l at) (e ∙ bytes_are n v)
+
+  -- where all of them fit
+  pub number_set : (x : List ℕ) → at + n ≤ length l → x ≡ bytes_low_first 0 n v → put_mid at (at + n - at) l x ≡ splice l at (le n v)
+  number_set x h e =
+      let q : x ≡ le n v = e ∙ bytes_are n v in
+      let t : length x ≡ n = rw q (length_le n v) in
+      array_put l at x at n (omega arith) t (omega arith) ∙ ap (splice l at) q
+
+  -- n of its bytes: those that it has, and zeros, as far as an address reaches
+  pub low_bytes_put : (x b c : List ℕ) (k j : ℕ) → v < 2 ^ 64 → length l < 2 ^ 64 → x ≡ bytes_low_first 0 8 v → k ≡ min n 8 → b ≡ splice l at (take k x)
+      → j ≡ min (at + 8) (2 ^ 64 - 1) → c ≡ splice b j (replicate (n - 8) 0) → c ≡ splice l at (le n v)
+  unfolding splice
+  low_bytes_put x b c k j f g ex ek eb ej ec =
+      let w : take k x ≡ le k v = rw (ex, bytes_are 8 v) (le_front k 8 v (omega arith)) in
+      let y : b ≡ splice l at (le k v) = eb ∙ ap (splice l at) w in
+      let lb : length b ≡ length l = splice_long l b at (le k v) y in
+      ⊎_elim
+      (λ (h : n ≤ 8). let z : n - 8 ≡ 0 = omega arith in let z2 : k ≡ n = omega arith in (rw z at ec) ∙ rw z2 at y)
+      (λ (h : 8 < n).
+      let z : k ≡ 8 = omega arith in
+      let t : length (le 8 v) ≡ 8 = length_le 8 v in
+      let m : le n v ≡ le 8 v ++ replicate (n - 8) 0 = (let q : n ≡ 8 + (n - 8) = omega arith in ap (λ (i : ℕ). le i v) q) ∙ le_more 8 (n - 8) v (omega arith) in
+      let p : b ≡ splice l at (le 8 v) = rw z at y in
+      let r : splice b (at + 8) (replicate (n - 8) 0) ≡ splice l at (le n v) = rw (p, m) (splice_next l at (le 8 v) (replicate (n - 8) 0) (at + 8) (omega arith)) in
+      let u : splice b j (replicate (n - 8) 0) ≡ splice b (at + 8) (replicate (n - 8) 0) =
+      ⊎_elim (λ (i : at + 8 ≤ 2 ^ 64 - 1). let o : j ≡ at + 8 = omega arith in rw o)
+      (λ (i : 2 ^ 64 - 1 < at + 8). splice_past b j (replicate (n - 8) 0) (omega arith) ∙ sym (splice_past b (at + 8) (replicate (n - 8) 0) (omega arith)))
+      (le_or_lt (at + 8) (2 ^ 64 - 1)) in
+      ec ∙ u ∙ r)
+      (le_or_lt n 8)
+
+-- ---- a number of bytes: its sum is the number that stands there
+get_last : (n : ℕ) (l : List ℕ) (i : ℕ) → get (suc n) l i ≡ get n l i + get_or l (i + n) 0 * 256 ^ n
+unfolding get
+get_last zero l i = let z : i + 0 ≡ i = omega arith in rw (z, pow-zero) (omega arith)
+get_last (suc n) l i =
+    let r : get (suc n) l (suc i) ≡ get n l (suc i) + get_or l (suc i + n) 0 * 256 ^ n = get_last n l (suc i) in
+    let p : i + suc n ≡ suc i + n = omega arith in
+    let q : 256 ^ suc n ≡ 256 ^ n * 256 = pow-suc _ _ in
+    rw (p, q, r) (grind arith)
+
+worth : (n : ℕ) (l : List ℕ) → sum_through (λ i. byte_worth i (get_or l i 0)) n ≡ get (suc n) l 0
+unfolding get
+worth zero l = omega arith
+worth (suc n) l = rw (worth n l) (sym (rw zero-add at (get_last (suc n) l 0)))
+
+pub number_is : (n : ℕ) (l r : List ℕ) (at v : ℕ) → ((k : ℕ) → k < suc n → get_or r k 0 ≡ get_or l (at + k) 0) → v ≡ sum_through (λ i. byte_worth i (get_or r i 0)) n → v ≡ get (suc n) l at
+number_is n l r at v h e = e ∙ worth n r ∙ get_same (suc n) r l 0 at (λ k p. rw zero-add (h k p))
+
+-- ---- an array that a closure gives, element by element, where no call changes it
+pub from_fn_gives : {F : Type 0} (g : Mut F (ℕ × Unit {0}) ℕ) (f : F) (P : ℕ → ℕ) (step : (i y : ℕ) (q : F) → Called g f (i, tt) y q → (y ≡ P i) × (q ≡ f))
+    (n i : ℕ) (ys : List ℕ) → IsFromFnResultFrom g f ys i n → (k : ℕ) → i ≤ k → k < i + n → get_or ys k 0 ≡ P k
+from_fn_gives g f P step zero i ys r k a b = absurd (omega arith)
+from_fn_gives {F} g f P step (suc n) i ys (q, y, e, w, r) k a b =
+    let s = step i y q w in
+    ⊎_elim (λ (h : k ≤ i). let z : k ≡ i = omega arith in rw z (e.1 0 ∙ s.0))
+    (λ (h : i < k). from_fn_gives g f P step n (i + 1) ys (subst (λ (x : F). IsFromFnResultFrom g x ys (i + 1) n) s.1 r) k (omega arith) (omega arith))
+    (le_or_lt k i)

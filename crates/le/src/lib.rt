@@ -1,150 +1,110 @@
 // Little-endian numbers in lent bytes: readers that see 0 past the end, writers that leave out what would lie there.
 #![tactic(auto)]
 
-ghost use Rattle.std.specs.Prelude.{◌≡◌, ◌+◌, ◌-◌, ◌*◌, min, get_or, replicate, [], ◌∷◌};
+ghost use Rattle.std.specs.Prelude.{◌≡◌, ℕ, ◌+◌, ◌-◌, ◌<◌, min, get_or, replicate, [], ◌∷◌};
 ghost use Rattle.le.specs.Le.{get, le, part, splice};
+
+use std::array;
 
 // The byte at a place.
 pub fn byte_at(s: &[u8], at: usize) -> u8
     ensures { result ≡ get_or s.now at 0 }
 {
-    if at < s.len() { s[at] } else { 0 }
+    s.get(at).copied().unwrap_or(0)
 }
 
-fn join16(a: u8, b: u8) -> u16
-    ensures { result ≡ a + 256 * b }
+// The `N` bytes from `at` on. Where all of them are there this is one load.
+fn bytes_at<const N: usize>(s: &[u8], at: usize) -> [u8; N]
+    ensures { (k : ℕ) → k < N → get_or result k 0 ≡ get_or s.now (at + k) 0 }
 {
-    a as u16 + 256 * (b as u16)
-}
-
-fn join32(a: u8, b: u8, c: u8, d: u8) -> u32
-    ensures { result ≡ a + 256 * (b + 256 * (c + 256 * d)) }
-{
-    a as u32 + 256 * (b as u32 + 256 * (c as u32 + 256 * (d as u32)))
-}
-
-fn join64(low: u32, high: u32) -> u64
-    ensures { result ≡ low + 4294967296 * high }
-{
-    low as u64 + 4294967296 * (high as u64)
+    let rest = &s[at.min(s.len())..];
+    match rest.first_chunk() {
+        Some(bytes) => *bytes,
+        None => array::from_fn(|k| byte_at(rest, k)),
+    }
 }
 
 // The number of two bytes there.
 pub fn u16_at(s: &[u8], at: usize) -> u16
     ensures { result ≡ get 2 s.now at }
 {
-    if at < s.len() {
-        join16(s[at], byte_at(s, at + 1))
-    } else {
-        0
-    }
+    u16::from_le_bytes(bytes_at(s, at))
 }
 
-// Four bytes that are all there are one load.
+// Of four bytes.
 pub fn u32_at(s: &[u8], at: usize) -> u32
     ensures { result ≡ get 4 s.now at }
 {
-    let n = s.len();
-    if at < n {
-        if 3 < n - at {
-            join32(s[at], s[at + 1], s[at + 2], s[at + 3])
-        } else {
-            let b = byte_at(s, at + 1);
-            let c = byte_at(s, at + 2);
-            let d = byte_at(s, at + 3);
-            join32(s[at], b, c, d)
-        }
-    } else {
-        0
-    }
+    u32::from_le_bytes(bytes_at(s, at))
 }
 
 // Of eight bytes.
 pub fn u64_at(s: &[u8], at: usize) -> u64
     ensures { result ≡ get 8 s.now at }
 {
-    let n = s.len();
-    if at < n {
-        if 7 < n - at {
-            join64(
-                join32(s[at], s[at + 1], s[at + 2], s[at + 3]),
-                join32(s[at + 4], s[at + 5], s[at + 6], s[at + 7]),
-            )
-        } else {
-            join64(u32_at(s, at), u32_at(s, at + 4))
-        }
-    } else {
-        0
-    }
+    u64::from_le_bytes(bytes_at(s, at))
 }
 
 // The `n` bytes from `from`, as far as there are any: that part of the lent bytes.
+#[tactic(auto, using(crate::proofs::Laws::part_is))]
 pub fn part(s: &[u8], from: usize, n: usize) -> &[u8]
     ensures { result.now ≡ part s.now from n }
 {
-    let len = s.len();
-    if from < len {
-        if n < len - from {
-            let to = from + n;
-            &s[from..to]
-        } else {
-            &s[from..]
-        }
-    } else {
-        &s[..0]
-    }
+    let rest = &s[from.min(s.len())..];
+    &rest[..n.min(rest.len())]
 }
 
 // How many of `n` bytes from `at` lie within `len`.
 pub fn room(len: usize, at: usize, n: usize) -> usize
     ensures { result ≡ min n (len - at) }
 {
-    if at < len {
-        if n < len - at { n } else { len - at }
-    } else {
-        0
-    }
+    n.min(len.saturating_sub(at))
 }
 
 // The bytes of `s` from `at` on.
+#[tactic(auto, using(crate::proofs::Laws::run_put))]
 pub fn copy(b: &mut [u8], at: usize, s: &[u8])
     ensures { b.new ≡ splice b.old at s.now }
 {
-    let n = room(b.len(), at, s.len());
-    let mut i: usize = 0;
-    while i < n {
-        b[at + i] = s[i];
-        i += 1;
-    }
+    let start = at.min(b.len());
+    let n = room(b.len(), start, s.len());
+    b[start..start + n].copy_from_slice(&s[..n]);
 }
 
 // `n` zeros from `at` on.
+#[tactic(auto, using(crate::proofs::Laws::zeros_put))]
 pub fn zero(b: &mut [u8], at: usize, n: usize)
     ensures { b.new ≡ splice b.old at (replicate n 0) }
 {
-    let m = room(b.len(), at, n);
-    let mut i: usize = 0;
-    while i < m {
-        b[at + i] = 0;
-        i += 1;
+    let start = at.min(b.len());
+    let n = room(b.len(), start, n);
+    b[start..start + n].fill(0);
+}
+
+// The bytes of a number from `at` on. Where all of them fit this is one store.
+#[tactic(auto, using(crate::proofs::Laws::array_put))]
+fn put_bytes<const N: usize>(b: &mut [u8], at: usize, bytes: [u8; N])
+    ensures { b.new ≡ splice b.old at bytes.entry }
+{
+    let start = at.min(b.len());
+    if N <= b.len() - start {
+        b[start..start + N].copy_from_slice(&bytes);
+    } else {
+        copy(b, at, &bytes);
     }
 }
 
-// The `n` low bytes of `v` from `at` on.
+// The `n` low bytes of `v` from `at` on; of more than it has the rest are 0.
+#[tactic(auto, using(crate::proofs::Laws::low_bytes_put))]
 pub fn put(b: &mut [u8], at: usize, n: usize, v: u64)
     ensures { b.new ≡ splice b.old at (le n v) }
 {
-    let m = room(b.len(), at, n);
-    let mut i: usize = 0;
-    let mut w = v;
-    while i < m {
-        b[at + i] = (w % 256) as u8;
-        w = w / 256;
-        i += 1;
-    }
+    copy(b, at, &v.to_le_bytes()[..n.min(8)]);
+    zero(b, at.saturating_add(8), n.saturating_sub(8));
 }
 
 // A byte at a place.
+#[tactic(auto, using(crate::proofs::Laws::bytes_put))]
 pub fn put_u8(b: &mut [u8], at: usize, v: u8)
     ensures { b.new ≡ splice b.old at (v ∷ []) }
 {
@@ -154,62 +114,39 @@ pub fn put_u8(b: &mut [u8], at: usize, v: u8)
 }
 
 // The two bytes of a number.
+#[tactic(auto, using(crate::proofs::Laws::number_put))]
 pub fn put_u16(b: &mut [u8], at: usize, v: u16)
     ensures { b.new ≡ splice b.old at (le 2 v) }
 {
-    put(b, at, 2, v as u64);
+    put_bytes(b, at, u16::to_le_bytes(v));
 }
 
-// Four bytes that all fit are one store.
+// Its four bytes.
+#[tactic(auto, using(crate::proofs::Laws::number_put))]
 pub fn put_u32(b: &mut [u8], at: usize, v: u32)
     ensures { b.new ≡ splice b.old at (le 4 v) }
 {
-    if room(b.len(), at, 4) == 4 {
-        b[at] = (v % 256) as u8;
-        let v1 = v / 256;
-        b[at + 1] = (v1 % 256) as u8;
-        let v2 = v1 / 256;
-        b[at + 2] = (v2 % 256) as u8;
-        let v3 = v2 / 256;
-        b[at + 3] = (v3 % 256) as u8;
-    } else {
-        put(b, at, 4, v as u64);
-    }
+    put_bytes(b, at, u32::to_le_bytes(v));
 }
 
-// The eight bytes of a number.
+// Its eight bytes.
+#[tactic(auto, using(crate::proofs::Laws::number_put))]
 pub fn put_u64(b: &mut [u8], at: usize, v: u64)
     ensures { b.new ≡ splice b.old at (le 8 v) }
 {
-    if room(b.len(), at, 8) == 8 {
-        b[at] = (v % 256) as u8;
-        let v1 = v / 256;
-        b[at + 1] = (v1 % 256) as u8;
-        let v2 = v1 / 256;
-        b[at + 2] = (v2 % 256) as u8;
-        let v3 = v2 / 256;
-        b[at + 3] = (v3 % 256) as u8;
-        let v4 = v3 / 256;
-        b[at + 4] = (v4 % 256) as u8;
-        let v5 = v4 / 256;
-        b[at + 5] = (v5 % 256) as u8;
-        let v6 = v5 / 256;
-        b[at + 6] = (v6 % 256) as u8;
-        let v7 = v6 / 256;
-        b[at + 7] = (v7 % 256) as u8;
-    } else {
-        put(b, at, 8, v);
-    }
+    put_bytes(b, at, u64::to_le_bytes(v));
 }
 
 // The same for 32-bit words: the one at `at`, 0 past the end; one put there; and the first `n`, as far as there are any.
+// Functions of their own, as `splice` and `part` are of numbers: no contract over a type parameter could name them.
 pub fn word_at(s: &[u32], at: usize) -> u32
     ensures { result ≡ get_or s.now at 0 }
 {
-    if at < s.len() { s[at] } else { 0 }
+    s.get(at).copied().unwrap_or(0)
 }
 
 // An element of a list of words.
+#[tactic(auto, using(crate::proofs::Laws::bytes_put))]
 pub fn put_word(b: &mut [u32], at: usize, v: u32)
     ensures { b.new ≡ splice b.old at (v ∷ []) }
 {
@@ -219,8 +156,9 @@ pub fn put_word(b: &mut [u32], at: usize, v: u32)
 }
 
 // The first n elements, or all.
+#[tactic(auto, using(crate::proofs::Laws::words_are))]
 pub fn words(s: &[u32], n: usize) -> &[u32]
     ensures { result.now ≡ part s.now 0 n }
 {
-    if n < s.len() { &s[0..n] } else { &s[0..] }
+    &s[..n.min(s.len())]
 }

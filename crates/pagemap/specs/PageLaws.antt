@@ -1,5 +1,5 @@
 -- What holds of the pages' definitions, as later layers ask it.
-use Rattle.std.specs.Prelude.{◌≡◌, Bool, ◌&&◌, List, ℕ, ◌+◌, ◌-◌, ◌*◌, ◌/◌, ◌%◌, ◌≤◌, ◌<◌, max, ltb, eqb}
+use Rattle.std.specs.Prelude.{◌≡◌, Bool, ◌&&◌, List, ℕ, ◌+◌, ◌-◌, ◌*◌, ◌/◌, ◌%◌, ◌≤◌, ◌<◌, max, ltb, is_ok}
 use Rattle.std.proofs.Math.Path.{refl}
 use Rattle.std.proofs.Math.Bool.{true, false}
 use native.Mathlib.Omega.{arith}
@@ -10,6 +10,7 @@ use borrow.Author.Tests.{lt-ltb, ltb-true, le-leb, leb-true, eq-eqb, eqb-true}
 use Rattle.util.specs.Pick.{pick, head_passes, rest_passes, and_left, and_right, and_both}
 use Rattle.util.specs.Prefix.{all_to, all_at, all_of}
 use Rattle.le.specs.Le.{length_splice}
+use Rattle.refusal.specs.Refusal.{PASSES, STORAGE, NOT_MAPPED}
 use Rattle.arch.specs.Page.{PAGE_SIZE, page_of, on_page}
 use Rattle.marks.specs.Marks.{WORD_PAGES, WORD_BYTES, marked, words_for, mark_bytes, marks_put}
 use Rattle.marks.specs.PutLaws.{marked_pages}
@@ -44,25 +45,25 @@ module _ (size : ℕ) (marks : List ℕ) (o n : ℕ) where
   span_in_lem e = let h = mapped_lent size marks (o + (max n 1 - 1)) (span_at_lem (max n 1 - 1) e (omega arith)) in omega arith
 
   -- what is read without a refusal lies within the image
-  pub read_span : read_code size marks o n ≡ 0 → span_mapped size marks o n ≡ true
+  pub read_span : read_code size marks o n ≡ PASSES → span_mapped size marks o n ≡ true
   unfolding read_code
   read_span e =
-      head_passes (span_mapped size marks o n) 0 15
-      (rest_passes (storage_ok size (length marks)) (pick (span_mapped size marks o n) 0 15) 13 e (λ z. omega arith))
-      (λ z. omega arith)
+      head_passes (span_mapped size marks o n) PASSES NOT_MAPPED
+      (rest_passes (storage_ok size (length marks)) (pick (span_mapped size marks o n) PASSES NOT_MAPPED) STORAGE e (λ z. cc))
+      (λ z. cc)
 
-  pub read_in : read_code size marks o n ≡ 0 → o + max n 1 ≤ size
+  pub read_in : read_code size marks o n ≡ PASSES → o + max n 1 ≤ size
   read_in e = span_in_lem (read_span e)
 
 -- so does a range that is read without a refusal; its start is not past its end, and the buffer has room
-module _ (size : ℕ) (marks : List ℕ) (start end room : ℕ) (e : slice_code size marks start end room ≡ 0) where
+module _ (size : ℕ) (marks : List ℕ) (start end room : ℕ) (e : slice_code size marks start end room ≡ PASSES) where
   slice_tests : leb start end && span_mapped size marks start (end - start) ≡ true
   unfolding slice_code
   slice_tests =
-      head_passes (leb start end && span_mapped size marks start (end - start)) 0 15
-      (rest_passes (storage_ok size (length marks) && leb (end - start) room) (pick (leb start end && span_mapped size marks start (end - start)) 0 15) 13
-      e (λ z. omega arith))
-      (λ z. omega arith)
+      head_passes (leb start end && span_mapped size marks start (end - start)) PASSES NOT_MAPPED
+      (rest_passes (storage_ok size (length marks) && leb (end - start) room)
+      (pick (leb start end && span_mapped size marks start (end - start)) PASSES NOT_MAPPED) STORAGE e (λ z. cc))
+      (λ z. cc)
 
   pub slice_ordered : start ≤ end
   slice_ordered = leb-true start end (and_left (leb start end) (span_mapped size marks start (end - start)) slice_tests)
@@ -78,8 +79,8 @@ module _ (size : ℕ) (marks : List ℕ) (start end room : ℕ) (e : slice_code 
   slice_room =
       leb-true (end - start) room
       (and_right (storage_ok size (length marks)) (leb (end - start) room)
-      (head_passes (storage_ok size (length marks) && leb (end - start) room) (pick (leb start end && span_mapped size marks start (end - start)) 0 15) 13
-      e (λ z. omega arith)))
+      (head_passes (storage_ok size (length marks) && leb (end - start) room)
+      (pick (leb start end && span_mapped size marks start (end - start)) PASSES NOT_MAPPED) STORAGE e (λ z. cc)))
 
 -- ---- `probe` says yes exactly where an empty read, or one of a byte, is not refused
 module _ (size : ℕ) (marks : List ℕ) (o : ℕ) where
@@ -91,17 +92,17 @@ module _ (size : ℕ) (marks : List ℕ) (o : ℕ) where
   unfolding span_mapped all_to
   span_one = rw add-zero
 
-  probe_code : (s t : Bool) → s && t ≡ eqb (pick s (pick t 0 15) 13) 0
+  probe_code : (s t : Bool) → s && t ≡ is_ok (pick s (pick t PASSES NOT_MAPPED) STORAGE)
   unfolding pick
   probe_code true true = refl
   probe_code true false = refl
   probe_code false t = refl
 
-  pub probe_empty : probed size marks o ≡ eqb (read_code size marks o 0) 0
+  pub probe_empty : probed size marks o ≡ is_ok (read_code size marks o 0)
   unfolding probed read_code
   probe_empty = rw span_none (probe_code (storage_ok size (length marks)) (mapped size marks o))
 
-  pub probe_byte : probed size marks o ≡ eqb (read_code size marks o 1) 0
+  pub probe_byte : probed size marks o ≡ is_ok (read_code size marks o 1)
   unfolding probed read_code
   probe_byte = rw span_one (probe_code (storage_ok size (length marks)) (mapped size marks o))
 

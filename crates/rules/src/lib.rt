@@ -9,7 +9,7 @@ use kinds::{Place, SymbolKind};
 
 // The home of the section of that number; a slot for the name, which goes among the externs; its slot, if it is there; the section of its
 // name, else the slot; or refusal 10.
-#[derive(Clone, Copy)]
+#[derive(Clone, Copy, Debug, PartialEq, Eq)]
 pub enum Rule {
     Section(u32),
     Extern,
@@ -23,11 +23,8 @@ fn data_rule(p: Place) -> Rule
 {
     match p {
         Place::In(n) => Rule::Section(n),
-        Place::Undefined => Rule::Extern,
-        Place::Common => Rule::Extern,
-        Place::Other => Rule::Extern,
-        Place::Absolute => Rule::Refused,
-        Place::Nowhere => Rule::Refused,
+        Place::Undefined | Place::Common | Place::Other => Rule::Extern,
+        Place::Absolute | Place::Nowhere => Rule::Refused,
     }
 }
 
@@ -36,11 +33,8 @@ fn section_rule(p: Place) -> Rule
 {
     match p {
         Place::In(n) => Rule::Section(n),
-        Place::Undefined => Rule::Name,
-        Place::Common => Rule::Name,
-        Place::Other => Rule::Refused,
-        Place::Absolute => Rule::Refused,
-        Place::Nowhere => Rule::Refused,
+        Place::Undefined | Place::Common => Rule::Name,
+        Place::Other | Place::Absolute | Place::Nowhere => Rule::Refused,
     }
 }
 
@@ -49,11 +43,7 @@ fn label_rule(p: Place) -> Rule
 {
     match p {
         Place::In(n) => Rule::Section(n),
-        Place::Undefined => Rule::Refused,
-        Place::Common => Rule::Refused,
-        Place::Other => Rule::Refused,
-        Place::Absolute => Rule::Refused,
-        Place::Nowhere => Rule::Refused,
+        _ => Rule::Refused,
     }
 }
 
@@ -61,12 +51,8 @@ fn unknown_rule(p: Place) -> Rule
     ensures { result ≡ unknown_rule p }
 {
     match p {
-        Place::In(_) => Rule::Slot,
-        Place::Undefined => Rule::Slot,
         Place::Common => Rule::Extern,
-        Place::Other => Rule::Slot,
-        Place::Absolute => Rule::Slot,
-        Place::Nowhere => Rule::Slot,
+        _ => Rule::Slot,
     }
 }
 
@@ -75,8 +61,7 @@ pub fn rule_of(kind: SymbolKind, p: Place) -> Rule
     ensures { result ≡ rule_of kind p }
 {
     match kind {
-        SymbolKind::Data => data_rule(p),
-        SymbolKind::Text => data_rule(p),
+        SymbolKind::Data | SymbolKind::Text => data_rule(p),
         SymbolKind::Section => section_rule(p),
         SymbolKind::Label => label_rule(p),
         SymbolKind::Unknown => unknown_rule(p),

@@ -11,7 +11,6 @@ ghost use Rattle.section.specs.Section.{
   share_bit,
   intersects,
   grants,
-  grants_at,
   grants_offset,
 };
 
@@ -20,7 +19,7 @@ use refusal::Refusal;
 
 // A record of the section table: its range in memory, its range in the file, read 1, write 2 and execute 4 added,
 // where its name stands in the file, and its number there, 0 for UNDEF.
-#[derive(Clone, Copy)]
+#[derive(Clone, Copy, PartialEq, Eq)]
 pub struct Section {
     pub start: VA,
     pub end: VA,
@@ -33,109 +32,92 @@ pub struct Section {
 }
 
 // What is asked about an address: one of these permissions, read 1, write 2 and execute 4 added.
-#[derive(Clone, Copy)]
+#[derive(Clone, Copy, PartialEq, Eq)]
 pub struct Probe {
     pub va: VA,
     pub permissions: u64,
 }
 
 // The same about an offset from the base.
-#[derive(Clone, Copy)]
+#[derive(Clone, Copy, PartialEq, Eq)]
 pub struct OffsetProbe {
     pub base: VA,
     pub rva: RVA,
     pub permissions: u64,
 }
 
+impl Section {
+    // The address lies in the section's range.
+    pub fn holds(self, va: VA) -> bool
+        ensures { result ≡ holds va self }
+    {
+        within(self.start.0, self.end.0, va.0)
+    }
+
+    // The offset lies in the section's part of the file.
+    pub fn file_holds(self, offset: u64) -> bool
+        ensures { result ≡ file_holds offset self }
+    {
+        within(self.file_start, self.file_end, offset)
+    }
+
+    // It has the byte of the file that an answer names.
+    pub fn has_byte(self, n: Result<u64, Refusal>) -> bool
+        ensures { result ≡ has_byte self n }
+    {
+        n.is_ok_and(|offset| self.file_holds(offset))
+    }
+
+    // UNDEF, the section with no number in the file, has its name from no file.
+    #[tactic(auto, unfolding(crate::specs::Section::section_has_name, util::specs::Pick::pick))]
+    pub fn has_name(self, file: &[u8], name: &[u8]) -> bool
+        ensures { result ≡ section_has_name file.now name.now self }
+    {
+        if self.number == 0 {
+            names::is_undef(name)
+        } else {
+            names::same(
+                le::part(file, self.name_start as usize, self.name_length as usize),
+                name,
+            )
+        }
+    }
+
+    // The section holds the address and has one of the permissions.
+    pub fn grants(self, q: Probe) -> bool
+        ensures { result ≡ grants q self }
+    {
+        self.holds(q.va) && intersects(self.permissions, q.permissions)
+    }
+
+    // The same for an offset from the base; past 64 bits, no.
+    pub fn grants_offset(self, q: OffsetProbe) -> bool
+        ensures { result ≡ grants_offset q self }
+    {
+        let permissions = q.permissions;
+        q.rva
+            .address(q.base)
+            .is_some_and(|va| self.grants(Probe { va, permissions }))
+    }
+}
+
 // From `low` on and below `high`.
 fn within(low: u64, high: u64, x: u64) -> bool
     ensures { result ≡ within low high x }
 {
-    util::both(low <= x, x < high)
-}
-
-// The address lies in the section's range.
-pub fn holds(s: Section, va: VA) -> bool
-    ensures { result ≡ holds va s }
-{
-    within(s.start.0, s.end.0, va.0)
-}
-
-// The offset lies in the section's part of the file.
-pub fn file_holds(s: Section, offset: u64) -> bool
-    ensures { result ≡ file_holds offset s }
-{
-    within(s.file_start, s.file_end, offset)
-}
-
-// It has the byte of the file that an answer names.
-pub fn has_byte(s: Section, n: Result<u64, Refusal>) -> bool
-    ensures { result ≡ has_byte s n }
-{
-    match n {
-        Ok(offset) => file_holds(s, offset),
-        Err(_) => false,
-    }
-}
-
-// UNDEF, the section with no number in the file, has its name from no file.
-pub fn has_name(s: Section, file: &[u8], name: &[u8]) -> bool
-    ensures { result ≡ section_has_name file.now name.now s }
-{
-    let undef = s.number == 0;
-    if undef {
-        names::is_undef(name)
-    } else {
-        names::same(
-            le::part(file, s.name_start as usize, s.name_length as usize),
-            name,
-        )
-    }
+    (low..high).contains(&x)
 }
 
 // Both have the lowest bit.
 fn share_bit(a: u64, b: u64) -> bool
     ensures { result ≡ share_bit a b }
 {
-    util::both(a % 2 == 1, b % 2 == 1)
+    a % 2 == 1 && b % 2 == 1
 }
 
 // Both have read, or write, or execute.
 fn intersects(a: u64, b: u64) -> bool
     ensures { result ≡ intersects a b }
 {
-    util::either(
-        share_bit(a, b),
-        util::either(share_bit(a / 2, b / 2), share_bit(a / 4, b / 4)),
-    )
-}
-
-// The section holds the address and has one of the permissions.
-pub fn grants(s: Section, q: Probe) -> bool
-    ensures { result ≡ grants q s }
-{
-    util::both(holds(s, q.va), intersects(s.permissions, q.permissions))
-}
-
-// The same at an address that may lie past 64 bits, where nothing is granted.
-fn grants_at(s: Section, a: Option<VA>, permissions: u64) -> bool
-    ensures { result ≡ grants_at permissions s a }
-{
-    match a {
-        Some(va) => {
-            let q = Probe {
-                va: va,
-                permissions: permissions,
-            };
-            grants(s, q)
-        }
-        None => false,
-    }
-}
-
-// The same for an offset from the base; past 64 bits, no.
-pub fn grants_offset(s: Section, q: OffsetProbe) -> bool
-    ensures { result ≡ grants_offset q s }
-{
-    grants_at(s, q.rva.address(q.base), q.permissions)
+    share_bit(a, b) || share_bit(a / 2, b / 2) || share_bit(a / 4, b / 4)
 }

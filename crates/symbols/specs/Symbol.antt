@@ -1,7 +1,7 @@
 -- Questions to the tables of symbols and of extern names (01, "Layout, slots and fixups": a name finds the last, an address all).
 use Rattle.refusal.specs.declared.Refusal.TheVariants.{NoEntry}
 use Rattle.refusal.specs.declared.Refusal.{Refusal}
-use Rattle.std.specs.Prelude.{Bool, List, [], ℕ, zero, suc, ◌-◌, ◌/◌, ltb, eqb, length, Result, Ok, Err}
+use Rattle.std.specs.Prelude.{Bool, List, [], ℕ, zero, suc, ◌-◌, ◌*◌, ◌/◌, ltb, eqb, length, Result, Ok, Err}
 use Rattle.util.specs.Pick.{pick}
 use Rattle.le.specs.Le.{part}
 use Rattle.names.specs.Bytes.{are_same_bytes}
@@ -10,9 +10,13 @@ use Rattle.arch.specs.Address.{va}
 use Rattle.symbols.specs.declared.Symbol.{Symbol}
 use Rattle.symbols.specs.declared.Extern.{Extern}
 use Rattle.words.specs.Words.{word_of}
-use Rattle.limits.specs.Records.{SYMBOL_WORDS, SYMBOL_BYTES, EXTERN_WORDS, EXTERN_BYTES, ADDRESS, NAME_START, NAME_LENGTH, SYMBOL_KIND, SYMBOL_NUMBER, SYMBOL_HOME, EXTERN_NUMBER}
+use Rattle.limits.specs.Records.{WORD, SYMBOL_WORDS, SYMBOL_BYTES, EXTERN_WORDS, EXTERN_BYTES, ADDRESS, NAME_START, NAME_LENGTH, SYMBOL_KIND, SYMBOL_NUMBER, SYMBOL_HOME, EXTERN_NUMBER}
 
 -- ---- the tables
+-- the whole records of a table whose records have W words; what is left behind them is none
+abbrev pub count : ℕ → List ℕ → ℕ
+count W table = length table / (WORD * W)
+
 -- the whole records of a symbol table; what is left behind them is none
 abbrev pub symbol_count : List ℕ → ℕ
 symbol_count table = length table / SYMBOL_BYTES
@@ -42,7 +46,11 @@ extern_record table k = record {
   name_length = word_of EXTERN_WORDS table k NAME_LENGTH;
 }
 
--- below the count the record, else a refusal
+-- of any table: below the count the record, else a refusal
+unfoldable pub entry : {R : Type 0} → ℕ → (List ℕ → ℕ → R) → List ℕ → ℕ → Result R Refusal
+entry W record_of table k = pick (ltb k (count W table)) (Ok (record_of table k)) (Err NoEntry)
+
+-- of the symbols
 unfoldable pub symbol_entry : List ℕ → ℕ → Result Symbol Refusal
 symbol_entry table k = pick (ltb k (symbol_count table)) (Ok (symbol_record table k)) (Err NoEntry)
 

@@ -72,7 +72,7 @@ sections_end f h base home undef i n m l b c o a k z d =
 pub sections_long : (T R l b c : List ℕ) (i n : ℕ) → Standing SECTION_BYTES T l b n i → c ≡ splice b (SECTION_BYTES * n) R → length c ≡ length l
 sections_long T R l b c i n o d = splice_long b c (SECTION_BYTES * n) R d ∙ standing_long SECTION_BYTES T l b n i o
 
-pub ruleset sections_loop = (sections_none, sections_end, sections_long)
+pub ruleset sections_loop = (sections_none, sections_more, sections_same, sections_end, sections_long)
 
 -- ---- externs
 pub extern_put : (f : List ℕ) (h : Header) (base undef : ℕ) (slots stops b c : List ℕ) (e k j ns nl s x : ℕ) (name : Option Name) → c ≡ splice b k (word_bytes (x ∷ j ∷ ns ∷ nl ∷ []))

@@ -68,7 +68,7 @@ fn number(k: u8, f: &[u8], h: Header, i: u32, r: u32) -> u64 {
         11 => first_at(object::records_of(f, h, i)),
         12 => read(f, h, i, r).typ as u64,
         13 => object::read_symbol(f, h, i).class as u64,
-        14 => kinds::kind_number(object::symbol_kind(f, h, i)),
+        14 => u64::from(object::symbol_kind(f, h, i)),
         15 => symbol_rows::place_number(object::symbol_place(f, h, i)),
         16 => object::auxiliaries(f, h, i) as u64,
         _ => object::auxiliaries_past(f, h) as u64,

@@ -57,7 +57,7 @@ fn with_class(f: &[u8], class: u64) -> u64 {
 // A digit for the kind, five for the place and one for the listed value.
 fn digits(f: &[u8]) -> u64 {
     let h = object::read_header(f);
-    let kind = kinds::kind_number(object::symbol_kind(f, h, 1));
+    let kind = u64::from(object::symbol_kind(f, h, 1));
     let place = place_number(object::symbol_place(f, h, 1));
     let listed = u64::from(object::listed_value(f, h, 1));
     kind % 16 * 0x1000000 + place % 0x100000 * 16 + listed % 16

@@ -77,12 +77,12 @@ module _ (l : List ℕ) (at v : ℕ) (e : List ℕ) (q : ℕ) where
   unfolding signed_text pick
   signed_plus h p = rw (lt-ltb v (2 ^ 63) h) p
 
-  pub signed_minus : (a : List ℕ) (to : ℕ) → 2 ^ 63 ≤ v → v < 2 ^ 64 → Puts l at (45 ∷ []) a to → Puts a to (decimal_text (18446744073709551615 - v + 1)) e q
+  pub signed_minus : (a : List ℕ) (to w : ℕ) → 2 ^ 63 ≤ v → v < 2 ^ 64 → w < 2 ^ 64 → (w + v) % 2 ^ 64 ≡ 0 → Puts l at (45 ∷ []) a to → Puts a to (decimal_text w) e q
       → Puts l at (signed_text v) e q
   unfolding signed_text pick
-  signed_minus a to h k f p =
-      let g : 18446744073709551615 - v + 1 ≡ 2 ^ 64 - v = omega arith in
-      rw (le-ltb v (2 ^ 63) h) (then l at a to (45 ∷ []) (decimal_text (2 ^ 64 - v)) e q f (rw g at p))
+  signed_minus a to w h k b z f p =
+      let g : w ≡ 2 ^ 64 - v = omega arith in
+      rw (le-ltb v (2 ^ 63) h, ← g) (then l at a to (45 ∷ []) (decimal_text w) e q f p)
 
 pub ruleset signed_ways = (signed_plus, signed_minus, same)
 

@@ -2,6 +2,7 @@
 use Rattle.std.specs.Prelude.{◌≡◌, List, [], ◌∷◌, ◌++◌, ℕ, zero, suc, ◌+◌, ◌-◌, ◌/◌, ◌%◌, ◌^◌, min, ltb, eqb, length}
 use Rattle.util.specs.Pick.{pick}
 use Rattle.le.specs.Le.{splice}
+use Rattle.text.specs.declared.Writer.{Writer}
 
 -- ---- numbers
 -- a digit: `0` to `9`, then `a` to `f`
@@ -51,3 +52,8 @@ newline = 10 ∷ []
 pub record Puts (before : List ℕ) (at : ℕ) (vs after : List ℕ) (to : ℕ) : Type 0 where
   pub bytes : after ≡ splice before at vs
   pub next : to ≡ at + min (length vs) (length before - at)
+
+-- the same of a writer, which keeps its buffer
+pub record Wrote (before : Writer) (vs : List ℕ) (after : Writer) : Type 0 where
+  pub same : after.out.ghost_name ≡ before.out.ghost_name
+  pub puts : Puts before.out.now before.at vs after.out.now after.at

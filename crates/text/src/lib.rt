@@ -1,127 +1,148 @@
-// Numbers, permissions and words put into a lent buffer. Each function answers the place behind what it put.
+// Numbers, permissions and words put into a lent buffer.
 #![tactic(auto)]
 
 ghost use Rattle.std.specs.Prelude.{◌≡◌, [], ◌∷◌, ◌++◌, ◌%◌, ◌≤◌};
-ghost use Rattle.text.specs.Text.{glyph, number, decimal_text, hex_text, signed_text, letter_or as mark_of, permissions_text, word, Puts};
+ghost use Rattle.le.specs.Le.{part};
+ghost use Rattle.text.specs.Text.{glyph, number, decimal_text, hex_text, signed_text, letter_or as mark_of, permissions_text, word, Wrote};
 
-// One byte at `at`; the answer is where the next goes.
-pub fn put_byte(out: &mut [u8], at: usize, b: u8) -> usize
-    ensures { Puts out.old at (b ∷ []) out.new result }
-{
-    if at < out.len() {
-        out[at] = b;
-        at + 1
-    } else {
-        at
+// A lent buffer, and the place in it where the next byte goes. What has no room is left out. Names are bytes of any kind, so it is
+// no `fmt::Write`, which takes UTF-8.
+#[derive(Drop)]
+pub struct Writer<'a> {
+    pub out: &'a mut [u8],
+    pub at: usize,
+}
+
+impl Writer<'_> {
+    // What is put from the buffer's front to the place.
+    pub fn written(&self) -> &[u8]
+        ensures { result.now ≡ part self.now.out.now 0 self.now.at }
+    {
+        le::part(self.out, 0, self.at)
+    }
+
+    // One byte.
+    #[tactic(auto, using(crate::proofs::Laws::byte_ways))]
+    pub fn byte(&mut self, b: u8)
+        ensures { Wrote self.old (b ∷ []) self.new }
+    {
+        if self.at < self.out.len() {
+            self.out[self.at] = b;
+            self.at += 1;
+        }
+    }
+
+    // A run of bytes.
+    pub fn text(&mut self, s: &[u8])
+        ensures { Wrote self.old s.now self.new }
+    {
+        let n = le::room(self.out.len(), self.at, s.len());
+        le::copy(self.out, self.at, s);
+        self.at += n;
+    }
+
+    // The digits before the last, and the last.
+    fn number(&mut self, n: u64, base: u64)
+        requires { (2 ≤ base) × (base ≤ 16) }
+        ensures { Wrote self.old (number base n) self.new }
+    {
+        let last = digit(n, base);
+        if n < base {
+            self.byte(last);
+        } else {
+            self.number(n / base, base);
+            self.byte(last);
+        }
+    }
+
+    // A number in decimal.
+    pub fn decimal(&mut self, n: u64)
+        ensures { Wrote self.old (decimal_text n) self.new }
+    {
+        self.number(n, 10);
+    }
+
+    // A number in hexadecimal.
+    pub fn hex(&mut self, n: u64)
+        ensures { Wrote self.old (hex_text n) self.new }
+    {
+        self.number(n, 16);
+    }
+
+    // A number in two's complement.
+    pub fn signed(&mut self, v: u64)
+        ensures { Wrote self.old (signed_text v) self.new }
+    {
+        if v < 0x8000000000000000 {
+            self.decimal(v);
+        } else {
+            self.byte(b'-');
+            self.decimal(v.wrapping_neg());
+        }
+    }
+
+    fn permissions(&mut self, p: u64)
+        ensures { Wrote self.old (permissions_text p) self.new }
+    {
+        self.byte(mark(p % 2, b'R'));
+        self.byte(mark(p / 2 % 2, b'W'));
+        self.byte(mark(p / 4 % 2, b'X'));
+    }
+
+    // With a space behind them.
+    pub fn hex_word(&mut self, n: u64)
+        ensures { Wrote self.old (word (hex_text n)) self.new }
+    {
+        self.hex(n);
+        self.byte(b' ');
+    }
+
+    // In decimal.
+    pub fn decimal_word(&mut self, n: u64)
+        ensures { Wrote self.old (word (decimal_text n)) self.new }
+    {
+        self.decimal(n);
+        self.byte(b' ');
+    }
+
+    // Permissions.
+    pub fn permissions_word(&mut self, p: u64)
+        ensures { Wrote self.old (word (permissions_text p)) self.new }
+    {
+        self.permissions(p);
+        self.byte(b' ');
+    }
+
+    // A line's first word, which has its own space, and its first number.
+    pub fn hex_head(&mut self, s: &[u8], n: u64)
+        ensures { Wrote self.old (s.now ++ word (hex_text n)) self.new }
+    {
+        self.text(s);
+        self.hex_word(n);
+    }
+
+    // The same in decimal.
+    pub fn decimal_head(&mut self, s: &[u8], n: u64)
+        ensures { Wrote self.old (s.now ++ word (decimal_text n)) self.new }
+    {
+        self.text(s);
+        self.decimal_word(n);
     }
 }
 
-// A run of bytes.
-pub fn put_text(out: &mut [u8], at: usize, s: &[u8]) -> usize
-    ensures { Puts out.old at s.now out.new result }
-{
-    let n = le::room(out.len(), at, s.len());
-    le::copy(out, at, s);
-    at + n
-}
-
 // The last digit.
+#[tactic(auto, unfolding(crate::specs::Text::glyph, util::specs::Pick::pick))]
 fn digit(n: u64, base: u64) -> u8
     requires { (2 ≤ base) × (base ≤ 16) }
     ensures { result ≡ glyph (n % base) }
 {
     let d = (n % base) as u8;
-    if d < 10 { 48 + d } else { 87 + d }
+    if d < 10 { b'0' + d } else { b'a' - 10 + d }
 }
 
-// The digits before the last, and the last.
-fn put_number(out: &mut [u8], at: usize, n: u64, base: u64) -> usize
-    requires { (2 ≤ base) × (base ≤ 16) }
-    ensures { Puts out.old at (number base n) out.new result }
-{
-    let d = digit(n, base);
-    if n < base {
-        return put_byte(out, at, d);
-    }
-    let to = put_number(out, at, n / base, base);
-    put_byte(out, to, d)
-}
-
-// A number in decimal.
-pub fn put_decimal(out: &mut [u8], at: usize, n: u64) -> usize
-    ensures { Puts out.old at (decimal_text n) out.new result }
-{
-    put_number(out, at, n, 10)
-}
-
-// A number in hexadecimal.
-pub fn put_hex(out: &mut [u8], at: usize, n: u64) -> usize
-    ensures { Puts out.old at (hex_text n) out.new result }
-{
-    put_number(out, at, n, 16)
-}
-
-// A number in two's complement.
-pub fn put_signed(out: &mut [u8], at: usize, v: u64) -> usize
-    ensures { Puts out.old at (signed_text v) out.new result }
-{
-    if v < 0x8000000000000000 {
-        return put_decimal(out, at, v);
-    }
-    let to = put_byte(out, at, b'-');
-    put_decimal(out, to, u64::MAX - v + 1)
-}
-
+#[tactic(auto, unfolding(crate::specs::Text::letter_or, util::specs::Pick::pick))]
 fn mark(bit: u64, letter: u8) -> u8
     ensures { result ≡ mark_of bit letter }
 {
     if bit == 0 { b'-' } else { letter }
-}
-
-fn put_permissions(out: &mut [u8], at: usize, p: u64) -> usize
-    ensures { Puts out.old at (permissions_text p) out.new result }
-{
-    let w = put_byte(out, at, mark(p % 2, b'R'));
-    let x = put_byte(out, w, mark(p / 2 % 2, b'W'));
-    put_byte(out, x, mark(p / 4 % 2, b'X'))
-}
-
-// With a space behind them.
-pub fn hex_word(out: &mut [u8], at: usize, n: u64) -> usize
-    ensures { Puts out.old at (word (hex_text n)) out.new result }
-{
-    let to = put_hex(out, at, n);
-    put_byte(out, to, b' ')
-}
-
-// In decimal.
-pub fn decimal_word(out: &mut [u8], at: usize, n: u64) -> usize
-    ensures { Puts out.old at (word (decimal_text n)) out.new result }
-{
-    let to = put_decimal(out, at, n);
-    put_byte(out, to, b' ')
-}
-
-// Permissions.
-pub fn permissions_word(out: &mut [u8], at: usize, p: u64) -> usize
-    ensures { Puts out.old at (word (permissions_text p)) out.new result }
-{
-    let to = put_permissions(out, at, p);
-    put_byte(out, to, b' ')
-}
-
-// A line's first word, which has its own space, and its first number.
-pub fn hex_head(out: &mut [u8], s: &[u8], n: u64) -> usize
-    ensures { Puts out.old 0 (s.now ++ word (hex_text n)) out.new result }
-{
-    let to = put_text(out, 0, s);
-    hex_word(out, to, n)
-}
-
-// The same in decimal.
-pub fn decimal_head(out: &mut [u8], s: &[u8], n: u64) -> usize
-    ensures { Puts out.old 0 (s.now ++ word (decimal_text n)) out.new result }
-{
-    let to = put_text(out, 0, s);
-    decimal_word(out, to, n)
 }

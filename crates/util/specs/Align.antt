@@ -1,8 +1,9 @@
 -- Rounding up to a multiple (01, "util.rs").
-use Rattle.std.specs.Prelude.{◌≡◌, ℕ, ◌+◌, ◌-◌, ◌*◌, ◌/◌, ◌%◌, ◌^◌, ◌<◌, ◌≤◌, ◌≢◌, nat_le}
+use Rattle.std.specs.Prelude.{◌≡◌, ℕ, ◌+◌, ◌-◌, ◌*◌, ◌/◌, ◌%◌, ◌^◌, ◌<◌, ◌≤◌, ◌≢◌, min, nat_le}
 use Rattle.std.proofs.Common.{arith, div-add-mod', mod-lt, add-mul, one-mul, div-mul-le_self, mod-eq_of_lt, lt_of_lt_of_le, ⊎_elim, le-leb}
 use Rattle.std.proofs.Math.Nat.{lt-div-mul-add, div-eq_of_lt-le, mul-mod_left}
 use Rattle.std.proofs.lemmas.Bool.{lt-leb}
+use Rattle.std.proofs.lemmas.Grind.{div_ceil_times}
 use Rattle.util.specs.Pick.{pick, le_or_lt}
 
 -- the least multiple of b that is not below i; a b of 0 or 1 rounds nothing
@@ -50,7 +51,7 @@ up_more i b h n =
     let d : (i + (b - 1)) / b ≡ i / b + 1 = div-eq_of_lt-le b (omega arith) (omega arith) in
     rw (up_is i b h, d, q) (omega arith)
 
--- ---- the ways through `align`
+-- ---- what `align` gives: of the rounded number what 64 bits hold
 module _ (i b : ℕ) (fits : i < 2 ^ 64) where
   pub align_none : b ≤ 1 → i ≡ round_up i b % 2 ^ 64
   align_none h = rw (up_one i b h, mod-eq_of_lt fits)
@@ -61,9 +62,16 @@ module _ (i b : ℕ) (fits : i < 2 ^ 64) where
 pub align_more : (i b r : ℕ) → 1 < b → (i % b ≢ 0) → r ≡ (i + (b - i % b)) % 2 ^ 64 → r ≡ round_up i b % 2 ^ 64
 align_more i b r h n e = rw (up_more i b h n) e
 
+pub align_up : (i b q : ℕ) → 1 < b → q ≡ i / b + min 1 (i % b) → q * b % 2 ^ 64 ≡ round_up i b % 2 ^ 64
+align_up i b q h e =
+    let t : (i ≤ q * b) × (q * b < i + b) = rw e (div_ceil_times i b (omega arith)) in
+    let n : (q + 1) * b ≡ q * b + b = rw (add-mul, one-mul) in
+    let d : (i + (b - 1)) / b ≡ q = div-eq_of_lt-le b (omega arith) (omega arith) in
+    rw (up_is i b h, d)
+
 -- in the range that is used nothing wraps
 pub align_exact : (i b : ℕ) → i + b ≤ 2 ^ 64 → i < 2 ^ 64 → round_up i b % 2 ^ 64 ≡ round_up i b
 align_exact i b f g =
     ⊎_elim (λ h. rw (up_one i b h) (mod-eq_of_lt g)) (λ h. mod-eq_of_lt (lt_of_lt_of_le (up_near i b h) f)) (le_or_lt b 1)
 
-pub ruleset align_ways = (align_none, align_same, align_more)
+pub ruleset align_ways = (align_none, align_up)

@@ -47,13 +47,13 @@ and_right false b e = cc
 pub and_both : (a b : Bool) → a ≡ true → b ≡ true → a && b ≡ true
 and_both a b e d = rw (e, d)
 
--- a chain of checks that says 0 head-passes the check at its head, and the rest of it says 0
-pub head_passes : (t : Bool) (a b : ℕ) → pick t a b ≡ 0 → (b ≢ 0) → t ≡ true
+-- a chain of checks that passes, by saying z, passes the check at its head, and the rest of it says z
+pub head_passes : {A : Type 0} {z : A} (t : Bool) (a b : A) → pick t a b ≡ z → (b ≢ z) → t ≡ true
 unfolding pick
 head_passes true a b e n = refl
 head_passes false a b e n = absurd (n e)
 
-pub rest_passes : (t : Bool) (a b : ℕ) → pick t a b ≡ 0 → (b ≢ 0) → a ≡ 0
+pub rest_passes : {A : Type 0} {z : A} (t : Bool) (a b : A) → pick t a b ≡ z → (b ≢ z) → a ≡ z
 unfolding pick
 rest_passes true a b e n = e
 rest_passes false a b e n = absurd (n e)

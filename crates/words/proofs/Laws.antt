@@ -1,18 +1,18 @@
 -- The loop that puts words. Assumes nothing.
 use mathlib.Core.Path.{◌≡◌, refl, sym, ap, ◌∙◌}
-use mathlib.Core.Bool.{Bool, true, false}
 use mathlib.Core.List.{List, [], ◌∷◌, ◌++◌, append-nil}
 use mathlib.Core.Logic.{⊎_elim}
 use Prim.Native.Nat.{ℕ, suc, ◌+◌, ◌-◌, ◌*◌, ◌/◌, ◌≤◌, ◌<◌, min}
 use native.Mathlib.Omega.{arith}
 use native.Mathlib.Numerals.{add-one}
-use borrow.Author.Tests.{le-leb, lt-leb, leb-true}
-use lib.Dec.{leb}
 use lib.ListN.{get_or, length, take, drop, take-append-drop}
 use lib.Seq.{take-suc, take_all, length-take-le}
+use Rattle.std.specs.Int.{bytes_low_first}
+use borrow.Rule.Slice.PartMut.{put_mid}
 use Rattle.limits.specs.Records.{WORD}
 use Rattle.util.specs.Pick.{le_or_lt}
 use Rattle.le.specs.Le.{le, splice, splice_next, splice_past, splice_long, length_splice}
+use Rattle.le.proofs.Laws.{number_set}
 use Rattle.words.specs.Words.{word_bytes, words_append, length_words}
 
 module _ (ws : List ℕ) where
@@ -28,11 +28,14 @@ module _ (ws : List ℕ) where
   unfolding word_bytes splice
   words_none l at = refl
 
-  pub words_again : (l b c : List ℕ) (at i n m : ℕ) → n ≡ min (length ws) m → i < n → b ≡ splice l at (word_bytes (take i ws))
+  word_again : (l b c : List ℕ) (at i : ℕ) → i < length ws → b ≡ splice l at (word_bytes (take i ws))
       → c ≡ splice b (at + WORD * i) (le WORD (get_or ws i 0)) → c ≡ splice l at (word_bytes (take (i + 1) ws))
-  words_again l b c at i n m q k e d =
-      let h : i < length ws = omega arith in
+  word_again l b c at i h e d =
       rw (d, e, add-one i, one_more i h) (splice_next l at (word_bytes (take i ws)) (le WORD (get_or ws i 0)) (at + WORD * i) (let z = length_front i h in omega arith))
+
+  pub words_again : (l b c : List ℕ) (at i n : ℕ) → n ≡ min (length ws) ((length l - at + (WORD - 1)) / WORD) → i < n → b ≡ splice l at (word_bytes (take i ws))
+      → c ≡ splice b (at + WORD * i) (le WORD (get_or ws i 0)) → c ≡ splice l at (word_bytes (take (i + 1) ws))
+  words_again l b c at i n q k e d = word_again l b c at i (omega arith) e d
 
   -- those that are left begin past the end
   words_past : (l : List ℕ) (at i : ℕ) → i < length ws → length l ≤ at + WORD * i → splice l at (word_bytes (take i ws)) ≡ splice l at (word_bytes ws)
@@ -43,39 +46,23 @@ module _ (ws : List ℕ) where
       ∙ splice_next l at (word_bytes (take i ws)) (word_bytes (drop i ws)) (at + WORD * i) (omega arith)
       ∙ ap (splice l at) (sym (words_append (take i ws) (drop i ws)) ∙ ap word_bytes (take-append-drop i ws))
 
-  pub words_end : (l b : List ℕ) (at i n : ℕ) → b ≡ splice l at (word_bytes (take i ws)) → i ≤ n → n ≤ i → n ≡ min (length ws) ((length l - at + (WORD - 1)) / WORD)
-      → b ≡ splice l at (word_bytes ws)
-  words_end l b at i n e a c q =
+  pub words_end : (l b : List ℕ) (at i n : ℕ) → n ≡ min (length ws) ((length l - at + (WORD - 1)) / WORD)
+      → b ≡ splice l at (word_bytes (take i ws)) → n ≤ i → b ≡ splice l at (word_bytes ws)
+  words_end l b at i n q e c =
       e
       ∙ ⊎_elim (λ k. ap (λ (x : List ℕ). splice l at (word_bytes x)) (take_all i ws k)) (λ k. words_past l at i k (omega arith)) (le_or_lt (length ws) i)
 
   -- where all of them are inside
-  pub inside_again : (l b c : List ℕ) (at i n : ℕ) → n ≡ length ws → i < n → b ≡ splice l at (word_bytes (take i ws)) → c ≡ splice b (at + WORD * i) (le WORD (get_or ws i 0))
-      → c ≡ splice l at (word_bytes (take (i + 1) ws))
-  inside_again l b c at i n q k e d = words_again l b c at i n (length ws) (omega arith) k e d
+  pub inside_again : (l b x : List ℕ) (at i : ℕ) → i < length ws → at + WORD * length ws ≤ length l → b ≡ splice l at (word_bytes (take i ws))
+      → x ≡ bytes_low_first 0 WORD (get_or ws i 0) → put_mid (at + WORD * i) (at + WORD * i + WORD - (at + WORD * i)) b x ≡ splice l at (word_bytes (take (i + 1) ws))
+  inside_again l b x at i k h e q =
+      let z = splice_long l b at (word_bytes (take i ws)) e in
+      word_again l b (put_mid (at + WORD * i) (at + WORD * i + WORD - (at + WORD * i)) b x) at i k e
+      (number_set b (at + WORD * i) WORD (get_or ws i 0) x (omega arith) q)
 
-  pub inside_end : (l b : List ℕ) (at i n : ℕ) → b ≡ splice l at (word_bytes (take i ws)) → n ≤ i → n ≡ length ws → b ≡ splice l at (word_bytes ws)
-  inside_end l b at i n e a q = e ∙ ap (λ (x : List ℕ). splice l at (word_bytes x)) (take_all i ws (omega arith))
+  pub inside_end : (l b : List ℕ) (at i : ℕ) → b ≡ splice l at (word_bytes (take i ws)) → length ws ≤ i → b ≡ splice l at (word_bytes ws)
+  inside_end l b at i e a = e ∙ ap (λ (x : List ℕ). splice l at (word_bytes x)) (take_all i ws a)
 
-  pub inside_fits : (l b : List ℕ) (at i n : ℕ) → at + WORD * length ws ≤ length l → n ≡ length ws → i < n → b ≡ splice l at (word_bytes (take i ws)) → at + WORD * i + WORD ≤ length b
-  inside_fits l b at i n h q k e = let z = splice_long l b at (word_bytes (take i ws)) e in omega arith
+pub ruleset words_loop = (words_none, words_again)
 
-pub ruleset words_loop = (words_none, words_again, words_end)
-
-pub ruleset inside_loop = (words_none, inside_again, inside_end, inside_fits, splice_long)
-
--- ---- the test of room
-module _ (len at n : ℕ) where
-  pub fits_by : at ≤ len → leb n ((len - at) / WORD) ≡ leb (at + WORD * n) len
-  fits_by h =
-      ⊎_elim (λ (a : n ≤ (len - at) / WORD). le-leb n ((len - at) / WORD) a ∙ sym (le-leb (at + WORD * n) len (omega arith)))
-      (λ (a : (len - at) / WORD < n). lt-leb n ((len - at) / WORD) a ∙ sym (lt-leb (at + WORD * n) len (omega arith)))
-      (le_or_lt n ((len - at) / WORD))
-
-  pub fits_not : len < at → false ≡ leb (at + WORD * n) len
-  fits_not h = sym (lt-leb (at + WORD * n) len (omega arith))
-
-  pub fits_says : (r : Bool) → r ≡ leb (at + WORD * n) len → r ≡ true → at + WORD * n ≤ len
-  fits_says r e y = leb-true (at + WORD * n) len (sym e ∙ y)
-
-pub ruleset fitting = (fits_by, fits_not, fits_says)
+pub ruleset inside_loop = (words_none, inside_again, inside_end)

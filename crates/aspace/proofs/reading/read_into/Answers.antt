@@ -1,0 +1,9 @@
+use Rattle.std.proofs.Common.{rules, arith, sym, ◌∙◌, ap}
+use Rattle.aspace.proofs.Places.{leaves_kept, leaves_new}
+use Rattle.aspace.proofs.reading.read_into.Goals as goal
+
+pub returns-in_err-bytes : goal.returns-in_err-bytes
+returns-in_err-bytes g c = leaves_kept _ _ _ _ _ c.in_err-bytes.ensures.refused (search rules)
+
+pub returns : goal.returns
+returns g c = leaves_new _ _ _ _ c.in_ok-bytes.ensures.read.0 (c.copy_from_slice.ensures.after ∙ c.in_ok-bytes.ensures.read.1)

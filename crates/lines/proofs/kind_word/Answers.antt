@@ -1,0 +1,6 @@
+use Rattle.std.proofs.Common.{rules}
+use Rattle.text.specs.TextLaws.{then}
+use Rattle.lines.proofs.kind_word.Goals as goal
+
+pub returns : goal.returns
+returns c = search (rules, then)
