@@ -1,5 +1,6 @@
 // A survey's answer as a line.
-use survey::{Counts, Survey};
+use refusal::Refusal;
+use survey::Counts;
 
 pub(crate) fn answer(s: Result<Counts, Refusal>) {
     match s {
@@ -7,9 +8,7 @@ pub(crate) fn answer(s: Result<Counts, Refusal>) {
             counts(c);
             of_the_file(c);
         }
-        Err(k) => {
-            part(b"refused ", k);
-        }
+        Err(r) => part(b"refused ", r.number()),
     }
     io::write_all(1, b"\n");
 }

@@ -22,12 +22,10 @@ fn main() {
 }
 
 fn objects(numbers: &[u32], n: u16, buffer: &mut [u8]) {
-    let mut i: u16 = 0;
-    while i < n {
+    for i in 0..n {
         let p = shape::plan_at(numbers, i);
         build(buffer, p);
         surveys(le::part(buffer, 0, shape::size(p)), p.times);
-        i += 1;
     }
 }
 
@@ -41,9 +39,7 @@ fn build(buffer: &mut [u8], p: Plan) {
 }
 
 fn surveys(f: &[u8], times: u16) {
-    let mut t: u16 = 0;
-    while t < times {
+    for _ in 0..times {
         line::answer(survey::survey(f));
-        t += 1;
     }
 }

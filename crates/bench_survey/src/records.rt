@@ -12,8 +12,8 @@ pub(crate) fn put_header(f: &mut [u8], p: Plan) {
 
 // The relocations go to the sections in equal shares, one more to the first ones: how many stand before section i's, and how many are its own.
 fn before(p: Plan, i: u16) -> u32 {
-    let over = shape::least(shape::turn(p.relocations, p.sections), i) as u32;
-    shape::product(shape::share(p.relocations, p.sections), i) + over
+    let over = shape::turn(p.relocations, p.sections).min(i);
+    shape::product(shape::share(p.relocations, p.sections), i) + u32::from(over)
 }
 
 fn own(p: Plan, i: u16) -> u32 {
@@ -38,10 +38,8 @@ fn put_section(f: &mut [u8], p: Plan, i: u16) {
 }
 
 pub(crate) fn put_sections(f: &mut [u8], p: Plan) {
-    let mut i: u16 = 0;
-    while i < p.sections {
+    for i in 0..p.sections {
         put_section(f, p, i);
-        i += 1;
     }
 }
 
@@ -54,9 +52,7 @@ fn put_relocation(f: &mut [u8], p: Plan, g: u16) {
 }
 
 pub(crate) fn put_relocations(f: &mut [u8], p: Plan) {
-    let mut g: u16 = 0;
-    while g < p.relocations {
+    for g in 0..p.relocations {
         put_relocation(f, p, g);
-        g += 1;
     }
 }

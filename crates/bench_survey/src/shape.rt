@@ -22,7 +22,7 @@ fn number(numbers: &[u32], i: u16, k: u8) -> u16 {
     x as u16
 }
 
-pub(crate) fn plan_at(numbers: &[u32], i: u16) -> Result<(Counts, usize), Refusal> {
+pub(crate) fn plan_at(numbers: &[u32], i: u16) -> Plan {
     let class = number(numbers, i, 7) % 256;
     Plan {
         sections: number(numbers, i, 0),
@@ -37,15 +37,7 @@ pub(crate) fn plan_at(numbers: &[u32], i: u16) -> Result<(Counts, usize), Refusa
     }
 }
 
-// What is left of a without b; the lesser of two; their product.
-pub(crate) fn without(a: u16, b: u16) -> u16 {
-    if b < a { a - b } else { 0 }
-}
-
-pub(crate) fn least(a: u16, b: u16) -> u16 {
-    if a < b { a } else { b }
-}
-
+// The product of two, in 32 bits.
 pub(crate) fn product(a: u16, b: u16) -> u32
     ensures { result ≤ 4294836225 }
 {
@@ -54,11 +46,11 @@ pub(crate) fn product(a: u16, b: u16) -> u32
 
 // How often n is in a, and what is left: a turn below n. Both are 0 where n is.
 pub(crate) fn share(a: u16, n: u16) -> u16 {
-    if n == 0 { 0 } else { a / n }
+    a.checked_div(n).unwrap_or(0)
 }
 
 pub(crate) fn turn(a: u16, n: u16) -> u16 {
-    if n == 0 { 0 } else { a % n }
+    a.checked_rem(n).unwrap_or(0)
 }
 
 pub(crate) fn section_at(i: u16) -> u32 {

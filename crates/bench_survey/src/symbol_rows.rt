@@ -22,12 +22,12 @@ pub(crate) fn put_short(f: &mut [u8], at: u32, n: u16, end: u32) {
 }
 
 fn undefined(p: Plan) -> u16 {
-    shape::without(p.symbols, p.defined)
+    p.symbols.saturating_sub(p.defined)
 }
 
 // The last extern names are the long ones; they begin with 'q', so they are the greatest.
 fn put_extern(f: &mut [u8], p: Plan, at: u32, e: u16) {
-    let short = shape::without(p.externs, p.long);
+    let short = p.externs.saturating_sub(p.long);
     if e < short {
         put_short(f, at, e, FUNCTION);
     } else {
@@ -51,7 +51,7 @@ fn put_undefined(f: &mut [u8], p: Plan, at: u32) {
 fn put_symbol(f: &mut [u8], p: Plan, j: u16) {
     let at = shape::symbol_at(p, j);
     if j < undefined(p) {
-        put_extern(f, p, at, shape::least(j, shape::without(p.externs, 1)));
+        put_extern(f, p, at, j.min(p.externs.saturating_sub(1)));
         put_undefined(f, p, at);
     } else {
         put_short(f, at, j, FUNCTION);
@@ -60,10 +60,8 @@ fn put_symbol(f: &mut [u8], p: Plan, j: u16) {
 }
 
 pub(crate) fn put_symbols(f: &mut [u8], p: Plan) {
-    let mut j: u16 = 0;
-    while j < p.symbols {
+    for j in 0..p.symbols {
         put_symbol(f, p, j);
-        j += 1;
     }
 }
 
@@ -72,7 +70,7 @@ pub(crate) fn put_symbols(f: &mut [u8], p: Plan) {
 pub(crate) fn named_by(p: Plan, g: u16) -> u32 {
     let n = undefined(p);
     if p.defined == 0 {
-        return shape::least(g, shape::without(n, 1)) as u32;
+        return u32::from(g.min(n.saturating_sub(1)));
     }
     if g % 2 == 0 {
         shape::turn(g / 2, n) as u32

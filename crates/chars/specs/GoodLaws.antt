@@ -10,9 +10,9 @@ use borrow.Author.Tests.{leb-true, le-leb, lt-leb, eqb-false, eq-eqb, ne_eqb, no
 use Rattle.std.proofs.Math.ListN.{length, get_or, drop, length-drop}
 use Rattle.util.specs.Pick.{pick, yes_no, le_or_lt, not_both, both_ways, and_left, and_right, and_both}
 use Rattle.util.specs.Prefix.{all_at, all_of}
-use Rattle.utf8.specs.Utf8.{from, begins, length_in, char_length, long_length, octets, well_formed}
+use Rattle.utf8.specs.Utf8.{begins, length_in, char_length, long_length, octets, well_formed}
 use Rattle.utf8.specs.CharLaws.{long_char, octets_behind}
-use Rattle.chars.specs.Chars.{visible, all_visible, good_section_name, allowed, all_allowed, good_symbol_name, char_at, walk, stop}
+use Rattle.chars.specs.Chars.{visible, all_visible, good_section_name, allowed, all_allowed, good_symbol_name, char_at, stop}
 use Rattle.chars.specs.WalkLaws.{Visible, visible_byte, is_char, walk_off, walk_on, along, walk_visible}
 
 -- ---- a section's

@@ -2,7 +2,7 @@
 #![tactic(auto)]
 
 ghost use Rattle.std.specs.Prelude.{◌≡◌, false, ◌+◌, ◌≤◌, ◌<◌, length, get_or};
-ghost use Rattle.chars.specs.Chars.{EIGHT, visible, all_visible, good_section_name, good_symbol_name, walk, stop};
+ghost use Rattle.chars.specs.Chars.{visible, all_visible, good_section_name, good_symbol_name, walk, stop};
 ghost use Rattle.chars.specs.WalkLaws.{VisibleTo, VisibleRun};
 
 // How many bytes one look takes, and how many must be left for it: a name in its field is too short to gain by it.
@@ -33,6 +33,7 @@ fn leap(t: &[u8], i: usize, e: usize) -> usize
     requires { (i ≤ e) × (i < e → e ≤ length t.now) }
     ensures { VisibleTo t.now i e result }
 {
+    // An index: it stops where fewer than ENOUGH are left, which is more than one look takes.
     let mut k = i;
     while ENOUGH <= e - k && all_visible(&t[k..k + EIGHT]) {
         k += EIGHT;
@@ -69,6 +70,7 @@ fn walk_on(t: &[u8], i: usize, e: usize) -> usize
     requires { i < e → e ≤ length t.now }
     ensures { result ≡ walk false t.now e i }
 {
+    // An index: a turn passes a run of bytes or a character of several.
     let mut k = i;
     while k < e {
         if is_visible(t[k]) {

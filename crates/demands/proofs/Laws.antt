@@ -9,7 +9,7 @@ use lib.ListN.{length}
 use Rattle.util.specs.Pick.{pick}
 use Rattle.le.specs.Le.{get, splice, splice_next, length_splice}
 use Rattle.words.specs.Words.{word_bytes}
-use Rattle.refusal.specs.Refusal.{unless_refused}
+use Rattle.refusal.specs.Refusal.{Code, refusal_number, unless_refused}
 use Rattle.patch.specs.declared.answer.Progress.{Progress}
 use Rattle.patch.specs.Fixes.{length_from}
 use Rattle.patch.specs.Patch.{Patches}
@@ -22,9 +22,9 @@ pub answer_applied : (a : Result Progress Refusal) (p : Progress) (w at : ℕ) (
 unfolding answer_words
 answer_applied a p w at l b e q d = rw (e, ← q) d
 
-pub answer_refused : (a : Result Progress Refusal) (n at : ℕ) (l b : List ℕ) → a ≡ Err n → b ≡ splice l at (word_bytes (n ∷ 0 ∷ 0 ∷ [])) → b ≡ splice l at (word_bytes (answer_words a))
+pub answer_refused : (a : Result Progress Refusal) (r : Refusal) (n at : ℕ) (l b : List ℕ) → a ≡ Err r → n ≡ refusal_number r → b ≡ splice l at (word_bytes (n ∷ 0 ∷ 0 ∷ [])) → b ≡ splice l at (word_bytes (answer_words a))
 unfolding answer_words
-answer_refused a n at l b e d = rw e d
+answer_refused a r n at l b e q d = rw (e, ← q) d
 
 pub ruleset answering = (answer_applied, answer_refused)
 
@@ -65,10 +65,10 @@ module _ (base : ℕ) (marks fixes words image answers : List ℕ) where
       let z : min (length words / CALL_BYTES) (length answers / ANSWER_BYTES) ≡ k = omega arith in
       rw z (runs_are base marks fixes (calls_to words k) image image₁ answers answers₁ t.leaves t.says)
 
-length_either : (code : ℕ) (new old : List ℕ) → length new ≡ length old → length (unless_refused code new old) ≡ length old
+length_either : (code : Code) (new old : List ℕ) → length new ≡ length old → length (unless_refused code new old) ≡ length old
 unfolding unless_refused
-length_either zero new old e = e
-length_either (suc k) new old e = refl
+length_either (Ok u) new old e = e
+length_either (Err r) new old e = refl
 
 length_call : (base : ℕ) (marks fixes image : List ℕ) (c : Call) → length (after_call base marks fixes image c) ≡ length image
 unfolding after_call

@@ -13,7 +13,7 @@ use borrow.Author.Tests.{leb-true, leb-false, le-leb, lt-leb, le-ltb, lt-ltb}
 use Rattle.util.specs.Pick.{pick, yes_no, le_or_lt}
 use Rattle.words.specs.Picked.{chosen}
 use Rattle.le.specs.Le.{length_splice}
-use Rattle.refusal.specs.Refusal.{POSITION, unless_refused}
+use Rattle.refusal.specs.Refusal.{Code, PASSES, POSITION, unless_refused}
 use Rattle.patch.specs.Fixes.{fix_count, fixed, fixed_from}
 use Rattle.patch.specs.Patch.{portion, patch_code, patch_answer}
 use Rattle.demands.specs.Calls.{Call, patch, asked, applied_by, applied, after_call, answer_to, after_calls, answers_to}
@@ -24,8 +24,8 @@ written_at base fixes image [] = image
 written_at base fixes image (k ∷ ks) = written_at base fixes (fixed base fixes image k) ks
 
 -- only 14 can be the answer's refusal: by the position alone
-abbrev pub plain_code : ℕ → ℕ → ℕ
-plain_code count position = pick (leb position count) 0 POSITION
+abbrev pub plain_code : ℕ → ℕ → Code
+plain_code count position = pick (leb position count) PASSES POSITION
 
 -- patch's answer then
 unfoldable pub plain_answer : ℕ → Call → Result Progress Refusal
@@ -132,7 +132,7 @@ module _ (base : ℕ) (fixes : List ℕ) where
     call_writes image (patch number position) e =
         ⊎_elim
         (λ b.
-        let z : patch_code size marks base fixes number position ≡ 0 = plain number position ∙ rw b in
+        let z : patch_code size marks base fixes number position ≡ PASSES = plain number position ∙ rw b in
         rw (e, z, applies (fix_count fixes) number position b) (from_written image position (portion (fix_count fixes) number position)))
         (λ b.
         let z : patch_code size marks base fixes number position ≡ POSITION = plain number position ∙ rw b in

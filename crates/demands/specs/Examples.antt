@@ -1,4 +1,6 @@
 -- The theorems of the demands with their hypotheses met: by the small object of 01's table, and where it costs nothing more by every file.
+use Rattle.refusal.specs.Refusal.{answer_of, unless_refused}
+use Rattle.refusal.specs.declared.Refusal.TheVariants.{Place, Base, NoSection, NoRoutine}
 use Rattle.nearest.specs.declared.Routine.{Routine}
 use Rattle.refusal.specs.declared.Refusal.{Refusal}
 use Rattle.std.specs.Prelude.{◌≡◌, refl, true, List, ℕ, ◌*◌, ◌<◌, leb, ltb, eqb, length, get_or, replicate, Result, Ok, Err}
@@ -75,16 +77,16 @@ loads_exists f base s = record { says = refl; leaves = refl }
 
 -- ---- refusals
 -- the small object with its relocation 3 bytes before the mapped end: 11 is the first check that fails
-pub small_refused : FirstFailure (checks (small_with 12285) (header_of (small_with 12285))) 11
-small_refused = survey_refuses (small_with 12285) 10 table.past_the_end
+pub small_refused : FirstFailure (checks (small_with 12285) (header_of (small_with 12285))) Place
+small_refused = survey_refuses (small_with 12285) Place table.past_the_end
 
 -- any file and storage at base 0x7F001000: 12, and the storage is as it was
-pub base_loads : (f : List ℕ) (s : Storage) → Loads f 0x7F001000 s s (Err 12)
-unfolding load_answer pick
+pub base_loads : (f : List ℕ) (s : Storage) → Loads f 0x7F001000 s s (Err Base)
+unfolding answer_of unless_refused
 base_loads f s = record { says = rw (table.base_refused f s); leaves = rw (table.base_refused f s) }
 
-pub base_refuses : (f : List ℕ) (s : Storage) → Refuses f 0x7F001000 s s 12
-base_refuses f s = load_refuses f 0x7F001000 s s 11 (base_loads f s)
+pub base_refuses : (f : List ℕ) (s : Storage) → Refuses f 0x7F001000 s s Base
+base_refuses f s = load_refuses f 0x7F001000 s s Base (base_loads f s)
 
 -- ---- storage that has just the room
 abbrev pub roomy : Counts → Storage
@@ -197,8 +199,8 @@ small_routine x = routine (table_sections (sections_of small_object 0x20000000))
 pub record SmallRoutines : Type 0 where
   pub inside : small_routine 0x20000004 ≡ Ok (record { symbol = 0; distance = 4 })
   pub last_byte : small_routine 0x2000000F ≡ Ok (record { symbol = 0; distance = 15 })
-  pub behind : small_routine 0x20000010 ≡ Err 19
-  pub undef : small_routine 0x20001000 ≡ Err 21
+  pub behind : small_routine 0x20000010 ≡ Err NoSection
+  pub undef : small_routine 0x20001000 ≡ Err NoRoutine
 
 pub small_routines : SmallRoutines
 unfolding pick all_to count_to list_to get le header_of loaded_by permissions_by file_start file_end range_length align_of round_up is_function code_or_data kind_by zero_place place_by listed_by left_after auxiliaries_left primary

@@ -1,4 +1,5 @@
 -- A list of calls in lent words, run by the program.
+use Rattle.refusal.specs.Refusal.{refusal_number}
 use Rattle.patch.specs.declared.answer.Progress.{Progress}
 use Rattle.refusal.specs.declared.Refusal.{Refusal}
 use Rattle.std.specs.Prelude.{◌≡◌, true, length, get_or, Result, Ok, Err}
@@ -44,7 +45,7 @@ ANSWER_BYTES = 24
 -- the three words of one answer
 unfoldable pub answer_words : Result Progress Refusal → List ℕ
 answer_words (Ok p) = 0 ∷ p.position ∷ pick p.done 1 0 ∷ []
-answer_words (Err n) = n ∷ 0 ∷ 0 ∷ []
+answer_words (Err r) = refusal_number r ∷ 0 ∷ 0 ∷ []
 
 -- of all answers, one behind another
 unfoldable pub answer_bytes : List (Result Progress Refusal) → List ℕ
@@ -119,7 +120,7 @@ module _ (base : ℕ) (marks fixes : List ℕ) where
   length_one : (a : Result Progress Refusal) → length (word_bytes (answer_words a)) ≡ ANSWER_BYTES
   unfolding answer_words
   length_one (Ok p) = length_words (0 ∷ p.position ∷ pick p.done 1 0 ∷ [])
-  length_one (Err n) = length_words (n ∷ 0 ∷ 0 ∷ [])
+  length_one (Err r) = length_words (refusal_number r ∷ 0 ∷ 0 ∷ [])
 
   bytes_both : (xs ys : List (Result Progress Refusal)) → answer_bytes (xs ++ ys) ≡ answer_bytes xs ++ answer_bytes ys
   unfolding answer_bytes

@@ -1,12 +1,14 @@
 -- 01's table of single facts ("A small object" and below), each over the definitions that the contracts use. What an object can show is shown on
 -- one: computed, or where it is long by the laws of `examples`.
+use Rattle.refusal.specs.declared.Refusal.TheVariants.{FileSize, SectionTable, Pages, Externs, Place}
+use Rattle.refusal.specs.Refusal.{PASSES, BASE, EXTERNS, answer_of}
 use Rattle.refusal.specs.declared.Refusal.{Refusal}
 use Rattle.std.specs.Prelude.{◌≡◌, refl, true, false, List, [], ◌∷◌, ◌++◌, ℕ, ◌+◌, ◌*◌, ◌≤◌, length, get_or, Some, Result, Ok, Err}
 use Rattle.std.proofs.Common.{ap, ◌∙◌, arith, le-leb}
 use Rattle.arch.specs.declared.Arch.TheVariants.{X64}
 use Rattle.arch.specs.Address.{rva}
 use Rattle.survey.specs.declared.answer.Counts.{Counts}
-use Rattle.survey.specs.Survey.{survey_of, extern_checks, first_failed, counts_by, answer_by}
+use Rattle.survey.specs.Survey.{survey_of, extern_checks, first_failed, counts_by}
 use Rattle.fixups.specs.Outcome.{fix_of, by_kind, resolved, outcome_at, outcome}
 use Rattle.tables.specs.Sections.{section_words, undef_words}
 use Rattle.symbol_table.specs.Symbols.{symbol_words}
@@ -153,7 +155,7 @@ pub record Table : Type 0 where
   pub small_slot : extern_words small_object (header_of small_object) 0x20000000 (undef_start small_object (header_of small_object)) (externs small_object (header_of small_object)) 0 ≡ 0x20001000 ∷ 1 ∷ 94 ∷ 6 ∷ []
   pub small_fixup : fix_words 0x20000000 (fixup_at small_object 0) ≡ 0x20000001 ∷ 32 ∷ 4091 ∷ []
   -- 19 bytes, whatever they are: 1
-  pub bytes_19 : (f : List ℕ) → length f ≡ 19 → survey_of f ≡ Err 1
+  pub bytes_19 : (f : List ℕ) → length f ≡ 19 → survey_of f ≡ Err FileSize
   -- an empty i386 header: 2 pages
   pub empty : survey_of empty_object ≡ Ok (counts_with 2 1 0 0 0 0 0 0)
   -- ranges by size and alignment code
@@ -163,28 +165,28 @@ pub record Table : Type 0 where
   pub size_4097_code_0 : range_of (sized 4097 0) ≡ 4112
   -- 4,094 section pages are accepted, 4,095 refused: 8
   pub pages_4094 : survey_of (sized (4096 * 4094) 1) ≡ Ok (counts_with 4096 2 0 0 0 1 0 0)
-  pub pages_4095 : survey_of (sized (4096 * 4095) 1) ≡ Err 8
+  pub pages_4095 : survey_of (sized (4096 * 4095) 1) ≡ Err Pages
   -- 1,024 sections whose records lie in the file pass 3, and 1,025 are refused by it, whatever follows (02, N2)
   pub sections_1024 : (f : List ℕ) (h : Header) → h.sections ≡ 1024 → section_header_at h 1024 ≤ length f → section_table_ok f h ≡ true
-  pub sections_1025 : (f : List ℕ) → size_ok f ≡ true → machine_ok (header_of f) ≡ true → (header_of f).sections ≡ 1025 → survey_of f ≡ Err 3
+  pub sections_1025 : (f : List ℕ) → size_ok f ≡ true → machine_ok (header_of f) ≡ true → (header_of f).sections ≡ 1025 → survey_of f ≡ Err SectionTable
   -- 1,024 names are accepted, 1,025 refused: 9
   pub names_1024 : survey_of most_names ≡ Ok (counts_with 3 2 0 1024 1024 1 1024 1024)
-  pub names_1025 : survey_of (names_object 1025 1025) ≡ Err 9
+  pub names_1025 : survey_of (names_object 1025 1025) ≡ Err Externs
   -- the last slot is at UNDEF + 4,092, with symbol 1,023; the last fixup takes its address
   pub last_slot : (base : ℕ) → last_name base ≡ (undef_address most_names base + 4092) ∷ 1023 ∷ 32810 ∷ 3 ∷ []
   pub last_fixup : fix_words 0x20000000 (fixup_at most_names 1023) ≡ 0x20000FFC ∷ 32 ∷ 0x20001FFC ∷ []
   -- the same of any file with so many
-  pub check_1024 : first_failed (extern_checks 1024) ≡ 0
-  pub check_1025 : first_failed (extern_checks 1025) ≡ 9
+  pub check_1024 : first_failed (extern_checks 1024) ≡ PASSES
+  pub check_1025 : first_failed (extern_checks 1025) ≡ EXTERNS
   pub slot_1023 : (f : List ℕ) (base : ℕ) → slot_value f base 1023 ≡ undef_address f base + 4092
   -- x64 type 9 from 0x20000010 to 0x20001000
   pub type_9 : value_of 0x20000000 (fix_of (type_of X64 9) (rva 0x10) (rva 0x1000)) ≡ 4071
   -- base 0x7F000000 is taken, 0x7F001000 refused, whatever the file and the storage: 12
   pub base_taken : base_ok 0x7F000000 ≡ true
-  pub base_refused : (f : List ℕ) (s : Storage) → first_failed (load_checks f (header_of f) 0x7F001000 s) ≡ 12
+  pub base_refused : (f : List ℕ) (s : Storage) → first_failed (load_checks f (header_of f) 0x7F001000 s) ≡ BASE
   -- a 32-bit fixup 4 bytes before the last mapped end is taken, one 3 bytes before it refused: 11
   pub last_place : survey_of (small_with 12284) ≡ Ok small_counts
-  pub past_the_end : survey_of (small_with 12285) ≡ Err 11
+  pub past_the_end : survey_of (small_with 12285) ≡ Err Place
 
 most_sections : (f : List ℕ) (h : Header) → h.sections ≡ 1024 → section_header_at h 1024 ≤ length f → section_table_ok f h ≡ true
 unfolding section_table_ok
@@ -194,8 +196,8 @@ no_table : (f : List ℕ) (h : Header) → h.sections ≡ 1025 → section_table
 unfolding section_table_ok
 no_table f h e = rw e
 
-more_sections : (f : List ℕ) → size_ok f ≡ true → machine_ok (header_of f) ≡ true → (header_of f).sections ≡ 1025 → survey_of f ≡ Err 3
-unfolding first_failed pick answer_by
+more_sections : (f : List ℕ) → size_ok f ≡ true → machine_ok (header_of f) ≡ true → (header_of f).sections ≡ 1025 → survey_of f ≡ Err SectionTable
+unfolding first_failed pick answer_of
 more_sections f s m e = rw (s, m, no_table f (header_of f) e)
 
 -- each of these facts holds
@@ -205,7 +207,7 @@ unfolding round_up pick all_to any_to sum_to count_to list_to arch_of get le par
     long_rows begins length_in octets run up_to_zero good_section_name good_symbol_name decimal_to compare_bytes are_same_bytes name_bytes long_run symbol_run slash_run section_run checked left_from long_span span_at first_in
     loaded_named record_start home_record section_home start_of by_number next_start start_at size_ok section_table_ok strings_ok symbol_table_ok bytes_ok data_ok relocations_ok sections_ok
     ok_at names_ok insert_name extern_step puts_by puts slot_from append_step fix_at_record skip_at_record by_kind resolved outcome_at outcome relocation_in rule_target target_of
-    count_step tally_of home_target slot_target named_target value_of of_place offset_from listed first_failed counts_by answer_by
+    count_step tally_of home_target slot_target named_target value_of of_place offset_from listed first_failed counts_by answer_of
     fold_records fold_sections left_after auxiliaries_left is_symbol section_words symbol_words
     extern_words fix_words base_ok
 table =
@@ -252,7 +254,7 @@ unfolding round_up pick all_to any_to sum_to count_to list_to arch_of get le par
     long_rows begins length_in octets run up_to_zero good_section_name good_symbol_name decimal_to compare_bytes are_same_bytes name_bytes long_run symbol_run slash_run section_run checked left_from long_span span_at first_in
     loaded_named record_start home_record section_home start_of by_number next_start start_at size_ok section_table_ok strings_ok symbol_table_ok bytes_ok data_ok relocations_ok sections_ok
     ok_at names_ok insert_name extern_step puts_by puts slot_from append_step fix_at_record skip_at_record by_kind resolved outcome_at outcome relocation_in rule_target target_of
-    count_step tally_of home_target slot_target named_target value_of of_place offset_from listed first_failed counts_by answer_by
+    count_step tally_of home_target slot_target named_target value_of of_place offset_from listed first_failed counts_by answer_of
     fold_records fold_sections left_after auxiliaries_left is_symbol section_words symbol_words
     extern_words fix_words base_ok
     chosen asked applied_by applied covers latest origin_by byte_of
@@ -273,7 +275,7 @@ unfolding round_up pick all_to any_to sum_to count_to list_to arch_of get le par
     long_rows begins length_in octets run up_to_zero good_section_name good_symbol_name decimal_to compare_bytes are_same_bytes name_bytes long_run symbol_run slash_run section_run checked left_from long_span span_at first_in
     loaded_named record_start home_record section_home start_of by_number next_start start_at size_ok section_table_ok strings_ok symbol_table_ok bytes_ok data_ok relocations_ok sections_ok
     ok_at names_ok insert_name extern_step puts_by puts slot_from append_step fix_at_record skip_at_record by_kind resolved outcome_at outcome relocation_in rule_target target_of
-    count_step tally_of home_target slot_target named_target value_of of_place offset_from listed first_failed counts_by answer_by
+    count_step tally_of home_target slot_target named_target value_of of_place offset_from listed first_failed counts_by answer_of
     fold_records fold_sections left_after auxiliaries_left is_symbol section_words symbol_words
     extern_words fix_words base_ok standard_value
 two_uninitialized_lem = record { accepted = refl; first = refl; second = refl; ours = refl; standard = refl }

@@ -17,7 +17,7 @@ use Rattle.le.specs.Le.{part, IsBytes, get_below}
 use Rattle.arch.specs.Page.{PAGE_SIZE}
 use Rattle.arch.specs.Address.{va, none_not_at}
 use Rattle.arch.specs.declared.RVA.{RVA}
-use Rattle.refusal.specs.Refusal.{NO_SECTION, NO_ROUTINE}
+use Rattle.refusal.specs.declared.Refusal.TheVariants.{NoSection, NoRoutine}
 use Rattle.object.specs.declared.Header.{Header}
 use Rattle.object.specs.Format.{VALUE_AT, header_of, symbol_record_at, symbol_value}
 use Rattle.object.specs.Section.{loaded, range_length}
@@ -115,7 +115,7 @@ NoHolder f base x = (r : ℕ) → HeldBy f base x r → ⊥
 -- of each answer; there is no other refusal
 unfoldable pub FileSays : List ℕ → ℕ → List ℕ → ℕ → Result Routine Refusal → Type 0
 FileSays f base symbols x (Ok a) = RoutineInFile f base symbols x a.symbol a.distance
-FileSays f base symbols x (Err n) = ((n ≡ NO_SECTION) × NoHolder f base x) ⊎ ((n ≡ NO_ROUTINE) × NoSymbolBelow f base x)
+FileSays f base symbols x (Err n) = ((n ≡ NoSection) × NoHolder f base x) ⊎ ((n ≡ NoRoutine) × NoSymbolBelow f base x)
 
 -- ---- what the words of the symbol table have room for
 offset_most : (w : Option RVA) (v m : ℕ) → ((o : RVA) → w ≡ Some o → o.0 ≤ m) → offset_from w v ≤ m + v

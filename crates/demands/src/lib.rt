@@ -8,7 +8,8 @@ ghost use Rattle.words.specs.Words.{word_bytes};
 ghost use Rattle.demands.specs.Running.{ANSWER_BYTES, call_at, calls_in, answer_words, RunsCall, Runs};
 
 use arch::VA;
-use patch::Patch;
+use patch::Progress;
+use refusal::Refusal;
 
 // The bytes of a call, and of its answer.
 const CALL_BYTES: usize = 16;
@@ -18,22 +19,16 @@ const POSITION_AT: usize = 8;
 
 const ANSWER_BYTES: usize = 24;
 
-fn flag(done: bool) -> u64
-    ensures { result ≡ pick done 1 0 }
-{
-    if done { 1 } else { 0 }
-}
-
 fn write_answer(answer: Result<Progress, Refusal>, answers: &mut [u8], at: usize)
     ensures { answers.new ≡ splice answers.old at (word_bytes (answer_words answer)) }
 {
     match answer {
         Ok(p) => {
-            let ws = [0, p.position, flag(p.done)];
+            let ws = [0, p.position, u64::from(p.done)];
             words::put(answers, at, &ws);
         }
-        Err(number) => {
-            let ws = [number, 0, 0];
+        Err(r) => {
+            let ws = [r.number(), 0, 0];
             words::put(answers, at, &ws);
         }
     }
@@ -57,21 +52,13 @@ fn run_call(
     write_answer(answer, answers, ANSWER_BYTES * k);
 }
 
-fn least(a: usize, b: usize) -> usize
-    ensures { result ≡ min a b }
-{
-    if a < b { a } else { b }
-}
-
 // Patches by each call in turn, refused ones among them, and writes each answer. A call is two words: how many fixups, and from which position; an
 // answer three: 0, the new position and whether all are done, or the refusal's number. Calls without room for their answer are not made.
 pub fn run(base: VA, image: &mut [u8], marks: &[u8], fixes: &[u8], calls: &[u8], answers: &mut [u8])
     ensures { Runs base.0 marks.now fixes.now (calls_in calls.now (length answers.old)) image.old image.new answers.old answers.new }
 {
-    let n = least(calls.len() / CALL_BYTES, answers.len() / ANSWER_BYTES);
-    let mut k: usize = 0;
-    while k < n {
+    let n = (calls.len() / CALL_BYTES).min(answers.len() / ANSWER_BYTES);
+    for k in 0..n {
         run_call(base, image, marks, fixes, calls, answers, k);
-        k += 1;
     }
 }

@@ -1,5 +1,5 @@
 -- The extern list of `names_object` is its symbols in their order: each relocation puts a name behind all that are there, or the last one again.
-use Rattle.std.specs.Ordering.{Greater}
+use Rattle.std.specs.declared.cmp.Ordering.TheVariants.{Greater}
 use Rattle.std.specs.Prelude.{◌≡◌, true, length, get_or}
 use Rattle.std.proofs.Math.Path.{refl, ap}
 use Rattle.std.proofs.Common.{sym, ◌∙◌, ⊎_elim}

@@ -1,7 +1,7 @@
 -- The names of `names_object` are good, and they rise with the numbers of their symbols.
 use Rattle.names.specs.declared.Name.{Name}
 use Rattle.names.specs.Name.{good_name}
-use Rattle.std.specs.Ordering.{Less, Greater}
+use Rattle.std.specs.declared.cmp.Ordering.TheVariants.{Less, Greater}
 use Rattle.std.specs.Prelude.{◌≡◌, true, false, List, ℕ, ◌+◌, ◌*◌, ◌/◌, ◌%◌, ◌≤◌, ◌<◌, eqb, length, get_or, Option, None}
 use Rattle.std.proofs.Common.{sym, ◌∙◌, ⊎_elim, ext_get_or}
 use Rattle.std.proofs.Math.Path.{ap}

@@ -1,5 +1,6 @@
 -- What `names_object` comes to, for every n from 1 on and every m from n to 32,768: with up to 1,024 names it is accepted, and the last slot is at
 -- UNDEF + 4 * (n - 1); with more, up to 4,096, it is refused by 9.
+use Rattle.refusal.specs.Refusal.{answer_of}
 use Rattle.refusal.specs.declared.Refusal.TheVariants.{Externs}
 use Rattle.survey.specs.declared.answer.Counts.{Counts}
 use Rattle.refusal.specs.declared.Refusal.{Refusal}
@@ -38,7 +39,7 @@ use Rattle.fixups.specs.declared.Outcome.TheVariants.{Fixup}
 use Rattle.fixups.specs.Outcome.{by_kind, resolved, outcome_at, outcome}
 use Rattle.fixups.specs.Lists.{over_records, append_step, fix_at_record, fix_list}
 use Rattle.fixups.specs.Tally.{is_passed, is_skipped, is_refused, is_fixup, is_outside, count_step, how_many, tally_of}
-use Rattle.survey.specs.Survey.{first_failed, extern_checks, target_checks, outcomes, tally, counts_by, counts, checks, answer_by, survey_of}
+use Rattle.survey.specs.Survey.{first_failed, extern_checks, target_checks, outcomes, tally, counts_by, counts, checks, survey_of}
 use Rattle.survey.specs.SurveyLaws.{records_rest}
 use Rattle.examples.specs.NamesObject.{MAX_NAMES, symbols_at, names_object, names_header, text_pages, slot_at, names_fix, names_counts}
 use Rattle.examples.specs.FieldLaws.{names_header_lem, text_count, relocation_is}
@@ -172,11 +173,11 @@ module _ (n m : ℕ) (some : 1 ≤ n) (names : n ≤ MAX_NAMES) (all : n ≤ m) 
   last_target = let e : min (m - 1) (n - 1) ≡ n - 1 = omega arith in rw (names_header_lem n m names most, undef_is n m names most, e)
 
   accepted : n ≤ MAX_EXTERNS → survey_of f ≡ Ok (names_counts n m)
-  unfolding answer_by first_failed pick
+  unfolding answer_of first_failed pick
   accepted few = rw (names_header_lem n m names most, counts_are, rest_is, le-leb n MAX_EXTERNS few, tally_is)
 
   refused : MAX_EXTERNS < n → survey_of f ≡ Err Externs
-  unfolding answer_by first_failed pick
+  unfolding answer_of first_failed pick
   refused many = rw (names_header_lem n m names most, rest_is, lt-leb n MAX_EXTERNS many)
 
 -- ---- survey's answer

@@ -1,7 +1,7 @@
 -- The ways through the readers, and the loops over the list of externs. Assumes nothing.
 use Rattle.refusal.specs.declared.Refusal.{Refusal}
 use Rattle.std.specs.Prelude.{None, Option, Some, Err, Ok, Result}
-use Rattle.std.specs.Ordering.{Ordering, Less, Equal, Greater}
+use Rattle.std.proofs.Common.{Ordering, Less, Equal, Greater, nat_cmp}
 use Rattle.le.specs.Le.{splice, splice_next, splice_above, fill_none, fill_again, fill_end, IsBytes}
 use mathlib.Core.Path.{◌≡◌, refl, sym, ap, ◌∙◌}
 use mathlib.Core.Bool.{Bool, true, false}
@@ -9,12 +9,14 @@ use mathlib.Core.List.{List, [], ◌∷◌, ◌++◌, append_assoc, append-nil}
 use mathlib.Core.Logic.{◌⊎◌, ⊎_elim}
 use Prim.Native.Nat.{ℕ, zero, suc, ◌+◌, ◌-◌, ◌/◌, ◌%◌, ◌≤◌, ◌<◌, min}
 use native.Mathlib.Nat.{not-suc-le-zero, le_of_suc-le-suc}
-use native.Mathlib.Numerals.{add-one, sub-one}
+use native.Mathlib.Numerals.{add-one}
 use native.Mathlib.Omega.{arith}
-use borrow.Author.Tests.{eq-eqb, ne_eqb}
+use borrow.Author.Tests.{eq-eqb, ne_eqb, lt-ltb, le-ltb}
 use lib.ListN.{length, get_or, take, drop, set, length-append, length-drop, drop_of_length-le, length-set, replicate, length-replicate, length-take, replicate-append-replicate}
-use lib.Seq.{drop-cons, take-suc, take-take, length-take-le, get_or-take, take-set-le, take-set-lt, drop-set-lt, get_or-set_same, set_split, split_at, take_at, append_snoc, sets-eq}
-use Rattle.util.specs.Pick.{pick, le_or_lt}
+use lib.Seq.{drop-cons, take-suc, take-take, take-append-le, length-take-le, length-paste, get_or-take, take-set-lt, set_split, split_at, take_at, drop_at, append_snoc, sets-eq}
+use Rattle.std.proofs.lemmas.List.{drop-take}
+use Rattle.std.specs.List.{copy_within}
+use Rattle.util.specs.Pick.{pick, le_or_lt, three_ways}
 use Rattle.util.specs.Prefix.{length_list}
 use Rattle.object.specs.declared.Header.{Header}
 use Rattle.names.specs.Bytes.{are_same_bytes, compare_bytes}
@@ -223,7 +225,10 @@ leap_more ks n p k q rises s h l =
 pub leap_room : (ks : List ℕ) (n q : ℕ) → n ≤ length ks → 8 ≤ n - q → q + 7 < length ks
 leap_room ks n q h l = omega arith
 
-pub ruleset skip_loop = (skip_none, skip_more, leap_more, leap_room)
+pub skip_end : (ks : List ℕ) (n p k q : ℕ) → Skipped ks n p k q → n ≤ q → Skipped ks n p k n
+skip_end ks n p k q s h = let a = s.high in let e : q ≡ n = omega arith in rw e at s
+
+pub ruleset skip_loop = (skip_none, skip_more, skip_end, leap_more, leap_room)
 
 -- ---- sorted names have keys that rise
 module _ (f : List ℕ) (h : Header) (n : ℕ) (l ks : List ℕ) (m : (i : ℕ) → Fits w8 (get_or f i 0)) (room : n ≤ length l) (beside : n ≤ length ks) (e : InStep f h l ks n)
@@ -311,37 +316,29 @@ module _ (l : List ℕ) (n : ℕ) (room : n < length l) where
   here : length (take n l) ≡ n
   here = length-take-le n l (omega arith)
 
-  pub shift_none : Shifted l n l n
-  shift_none =
+  -- as the library's copy leaves it
+  pub shift_copied : (m : List ℕ) (p : ℕ) → p ≤ n → m ≡ copy_within l p n (p + 1) → Shifted l n m p
+  shift_copied m p h e =
+      let xs = take (p + 1) l in
+      let ys = take (n - p) (drop p l) in
+      let zs = drop (p + 1 + (n - p)) l in
+      let size : length xs ≡ suc p = let z = length-take-le (p + 1) l (omega arith) in omega arith in
+      let past : length (drop p l) ≡ length l - p = length-drop p l in
+      let up : p + (n - p) ≡ n = omega arith in
+      let behind : p + 1 + (n - p) ≡ suc n = omega arith in
+      let moved : ys ≡ drop p (take n l) = rw up at (sym (drop-take p (n - p) l)) in
       record {
-        long = refl;
-        front = refl;
-        back = let g : length (take n l) ≤ n = omega (arith, here) in simp (drop_of_length-le (take n l) g);
+        long = ap length e ∙ length-paste l (p + 1) (drop p l) (n - p) (omega arith) (omega arith);
+        front = ap (λ (k : List ℕ). take p k) e
+            ∙ take-append-le p (xs ++ ys) zs (omega (arith, length-append xs ys))
+            ∙ take-append-le p xs ys (omega arith)
+            ∙ take-take p (p + 1) l (omega arith);
+        back = ap (λ (k : List ℕ). drop (suc p) k) e
+            ∙ ap (λ (k : List ℕ). drop (suc p) k) (append_assoc xs ys zs)
+            ∙ drop_at xs (ys ++ zs) (suc p) size
+            ∙ ap (λ (k : List ℕ). k ++ zs) moved
+            ∙ ap (λ (i : ℕ). drop p (take n l) ++ drop i l) behind;
       }
-
-  shift_suc : (m : List ℕ) (i : ℕ) → suc i ≤ n → Shifted l n m (suc i) → Shifted l n (set m (suc i) (get_or m i 0)) i
-  shift_suc m i h s =
-      let v = get_or m i 0 in
-      let in-m : suc i < length m = omega (arith, s.long) in
-      let in-s : suc i < length (set m (suc i) v) = rw (length-set m (suc i) v) in-m in
-      let same : get_or m i 0 ≡ get_or (take n l) i 0 =
-      sym (get_or-take (suc i) m i 0 (omega arith)) ∙ ap (λ (ys : List ℕ). get_or ys i 0) s.front
-      ∙ get_or-take (suc i) l i 0 (omega arith)
-      ∙ sym (get_or-take n l i 0 h) in
-      record {
-        long = length-set m (suc i) v ∙ s.long;
-        front = take-set-le i m (suc i) v (omega arith) ∙ sym (take-take i (suc i) m (omega arith))
-            ∙ ap (λ (ys : List ℕ). take i ys) s.front
-            ∙ take-take i (suc i) l (omega arith);
-        back = drop-cons (set m (suc i) v) (suc i) 0 in-s
-            ∙ ap (λ (x : ℕ). x ∷ drop (suc (suc i)) (set m (suc i) v)) (get_or-set_same m (suc i) v 0 in-m ∙ same)
-            ∙ ap (λ (ys : List ℕ). get_or (take n l) i 0 ∷ ys) (drop-set-lt (suc (suc i)) m (suc i) v (omega arith) ∙ s.back)
-            ∙ ap (λ (ys : List ℕ). ys ++ drop (suc n) l) (sym (drop-cons (take n l) i 0 (rw here h)));
-      }
-
-  pub shift_more : (m : List ℕ) (p q : ℕ) → p < q → q ≤ n → Shifted l n m q → Shifted l n (set m q (get_or m (q - 1) 0)) (q - 1)
-  shift_more m p zero k h s = absurd (not-suc-le-zero k)
-  shift_more m p (suc i) k h s = simp sub-one (shift_suc m i h s)
 
   pub shift_end : (m : List ℕ) (j p q : ℕ) → q ≤ p → p ≤ q → p ≤ n → Shifted l n m q → held (n + 1) (set m p j) ≡ put_at p j (held n l)
   unfolding held put_at
@@ -359,7 +356,8 @@ module _ (l : List ℕ) (n : ℕ) (room : n < length l) where
       ∙ sym (append_assoc (take p xs) (j ∷ drop p xs) (drop (suc n) l)))
       ∙ take_at (take p xs ++ j ∷ drop p xs) (drop (suc n) l) (n + 1) size
 
-pub ruleset shift_loop = (shift_none, shift_more, shift_end)
+pub put_copied : (l m : List ℕ) (n p j : ℕ) → n < length l → p ≤ n → m ≡ copy_within l p n (p + 1) → held (n + 1) (set m p j) ≡ put_at p j (held n l)
+put_copied l m n p j room h e = shift_end l n room m j p p (omega arith) (omega arith) h (shift_copied l n room m p h e)
 
 -- ---- what the answer says
 module _ (ys l : List ℕ) where
@@ -441,13 +439,18 @@ pub ruleset half_loop = (half_begin, half_left, half_here, half_right, half_none
 
 -- the order of a name and an entry, by their keys
 module _ (f : List ℕ) (h : Header) (name : Span) (a x b : ℕ) (m : (i : ℕ) → Fits w8 (get_or f i 0)) (mine : a ≡ key KEY_BYTES (span_text f name)) (its : b ≡ symbol_key f h x) where
-  pub entry_less : a < b → Less ≡ name_order f h (span_text f name) x
+  entry_less : a < b → Less ≡ name_order f h (span_text f name) x
   entry_less c = sym (key_less f (λ i. let b = m i in omega arith) name (symbol_span f h x) (rw (mine, its) at c))
 
-  pub entry_greater : b < a → Greater ≡ name_order f h (span_text f name) x
+  entry_greater : b < a → Greater ≡ name_order f h (span_text f name) x
   entry_greater c = sym (key_greater f (λ i. let b = m i in omega arith) name (symbol_span f h x) (rw (mine, its) at c))
 
-pub ruleset entry_ways = (entry_less, entry_greater)
+  pub entry_apart : (r : Ordering) → r ≡ nat_cmp a b → (r ≡ Equal → ⊥) → r ≡ name_order f h (span_text f name) x
+  entry_apart r e n =
+      ⊎_elim (λ c. rw (e, lt-ltb a b c) (entry_less c))
+      (λ s. ⊎_elim (λ q. absurd (n (rw (e, le-ltb a b (omega arith), eq-eqb a b q))))
+      (λ c. rw (e, le-ltb a b (omega arith), ne_eqb a b (λ z. omega arith)) (entry_greater c)) s)
+      (three_ways a b)
 
 -- ---- the slots into the codes
 module _ (found : Option ℕ) where

@@ -8,7 +8,7 @@ use mathlib.Core.Logic.{◌⊎◌, inl, inr, ⊎_elim}
 use Prim.Native.Nat.{ℕ, zero, suc, ◌+◌, ◌-◌, ◌*◌, ◌/◌, ◌≤◌, ◌<◌}
 use native.Mathlib.Numerals.{add-one}
 use native.Mathlib.Omega.{arith}
-use borrow.Author.Tests.{eqb-true, lt-leb, le-leb, ltb-true}
+use borrow.Author.Tests.{eqb-true, lt-leb, le-leb, lt-ltb, le-ltb, ltb-true}
 use lib.Dec.{eqb, leb, ltb}
 use lib.ListN.{length, get_or, take, drop, set, replicate, length-append, length-replicate, length-take, length-set}
 use lib.Seq.{ext_get_or, take_at, length-take-le, take-take}
@@ -51,35 +51,14 @@ module _ (f : List ℕ) (h : Header) (l ks : List ℕ) where
   kept_more n j r l' ks' k y e = record { step = e; rising = rw y.list (rise f h j (held n l) k.rising) }
 
 -- ---- the codes of symbols that put their names
-module _ (c : ℕ) where
-  pub spent_undef : eqb c UNDEF_EXTERN ≡ true → UNDEF_RECORD ≡ spent c
-  unfolding spent pick
-  spent_undef t = rw t
-
-  pub spent_slot : eqb c UNDEF_EXTERN ≡ false → SLOT ≡ spent c
-  unfolding spent pick
-  spent_slot t = rw t
-
-  pub settled_undef : eqb c UNDEF_EXTERN ≡ true → UNDEF_RECORD ≡ settled c
-  unfolding settled pick
-  settled_undef t = rw t
-
-  pub settled_left : eqb c UNDEF_EXTERN ≡ false → c ≡ settled c
-  unfolding settled pick
-  settled_left t = rw t
-
-pub ruleset spents = (spent_undef, spent_slot)
-
-pub ruleset settles = (settled_undef, settled_left)
-
 module _ (h : Header) (codes codes' : List ℕ) (j : ℕ) where
-  pub spend_own : (c x : ℕ) → ltb j h.symbols ≡ true → c ≡ get_or codes j 0 → x ≡ spent c → codes' ≡ splice codes j (x ∷ []) → codes' ≡ spend h codes j
+  pub spend_own : (c x : ℕ) → j < h.symbols → c ≡ get_or codes j 0 → x ≡ spent c → codes' ≡ splice codes j (x ∷ []) → codes' ≡ spend h codes j
   unfolding spend pick
-  spend_own c x t e q d = rw (t, ← e, ← q) d
+  spend_own c x t e q d = rw (lt-ltb j h.symbols t, ← e, ← q) d
 
-  pub spend_past : ltb j h.symbols ≡ false → codes ≡ spend h codes j
+  pub spend_past : h.symbols ≤ j → codes ≡ spend h codes j
   unfolding spend pick
-  spend_past t = rw t
+  spend_past t = rw (le-ltb j h.symbols t)
 
 pub ruleset spending = (spend_own, spend_past)
 
@@ -243,7 +222,10 @@ module _ (t codes : List ℕ) (k : ℕ) where
   pub pass_in : (q : ℕ) → q < length t / RELOCATION_SIZE → RELOCATION_SIZE * q + RELOCATION_SIZE ≤ length t
   pass_in q lt = omega arith
 
-pub ruleset pass_loop = (pass_none, pass_more, pass_in)
+  pub pass_end : (q n : ℕ) → Passing t codes k q → q ≤ n → n ≤ q → Passing t codes k n
+  pass_end q n p a b = let e : q ≡ n = omega arith in rw e at p
+
+pub ruleset pass_loop = (pass_none, pass_more, pass_in, pass_end)
 
 -- ---- the relocations of a section: by the codes `old` that they had first, of which `new` are left
 module _ (f : List ℕ) (h : Header) (old : List ℕ) (i : ℕ) (start : List ℕ) where

@@ -1,5 +1,5 @@
 -- The slot of a name by a search in halves, as the code goes: in a sorted list the same answer as the plain search, `slot_of` (BisectLaws).
-use Rattle.std.specs.Ordering.{Ordering, Less, Equal, Greater}
+use Rattle.std.proofs.Common.{Ordering, Less, Equal, Greater}
 use Rattle.std.specs.Prelude.{List, ℕ, zero, suc, ◌+◌, ◌-◌, ◌/◌, eqb, length, get_or, None, Option, Some}
 use Rattle.util.specs.Pick.{pick}
 use Rattle.object.specs.declared.Header.{Header}

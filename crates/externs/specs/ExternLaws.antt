@@ -1,6 +1,6 @@
 -- What the list of externs is, for every file and every choice of the symbols that put their names: sorted, each name once, exactly the names put, with the lowest numbers.
 use Rattle.refusal.specs.declared.Refusal.{Refusal}
-use Rattle.std.specs.Ordering.{Less, Equal}
+use Rattle.std.proofs.Common.{Less, Equal}
 use Rattle.std.specs.Prelude.{leb, ◌≡◌, Bool, get_or, take, replicate, Some, Result, Ok, Err, Option, None}
 use Rattle.std.proofs.Common.{leb-true, leb-false, sym, ap, ◌∙◌, arith, length-take-le}
 use Rattle.std.proofs.Math.Path.{refl}

@@ -1,6 +1,6 @@
 -- The extern list: symbol numbers in the order of their names, each name once, with the lowest number that put it there (01, "Layout, slots and fixups").
 use Rattle.refusal.specs.declared.Refusal.{Refusal}
-use Rattle.std.specs.Ordering.{Ordering, Less, Equal, Greater}
+use Rattle.std.proofs.Common.{Ordering, Less, Equal, Greater}
 use Rattle.std.specs.Prelude.{Bool, List, [], ◌∷◌, ◌++◌, ◌≡◌, ℕ, ◌-◌, ◌≤◌, ◌<◌, min, leb, length, take, replicate, Result, Ok, Err, Option, Some, None}
 use Rattle.util.specs.Pick.{pick}
 use Rattle.util.specs.Fold.{fold_records, fold_sections}

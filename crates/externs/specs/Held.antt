@@ -1,5 +1,5 @@
 -- What the parts of `collect` promise: the list of externs is the first n numbers of a buffer.
-use Rattle.std.specs.Ordering.{Equal}
+use Rattle.std.proofs.Common.{Equal}
 use Rattle.std.specs.Prelude.{◌≡◌, List, ◌∷◌, ◌++◌, ℕ, suc, ◌+◌, ◌≤◌, ◌<◌, min, get_or, take, drop, Err, Ok, Result}
 use Rattle.object.specs.declared.Header.{Header}
 use Rattle.externs.specs.Externs.{order_of, insert_name}

@@ -1,5 +1,5 @@
 -- One insertion: the list stays sorted, keeps its names, and gets that of j. Lemmas of ExternLaws.
-use Rattle.std.specs.Ordering.{Ordering, Less, Equal, Greater}
+use Rattle.std.proofs.Common.{Ordering, Less, Equal, Greater}
 use Rattle.std.specs.Prelude.{◌≡◌, ◌⊎◌, length, get_or}
 use Rattle.std.proofs.Math.Path.{refl, sym, ap}
 use Rattle.std.proofs.Common.{◌∙◌, not-suc-le-zero, le_trans, le_of_suc-le-suc}

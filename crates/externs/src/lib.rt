@@ -37,6 +37,7 @@ fn leap(keys: &[u64], n: usize, p: usize, key: u64) -> usize
     ensures { Skipped keys.now n p key result }
 {
     let mut q = p;
+    // A `while`, as it goes on by eight keys.
     while LEAP <= n - q {
         if key <= keys[q + (LEAP - 1)] {
             return q;
@@ -47,18 +48,17 @@ fn leap(keys: &[u64], n: usize, p: usize, key: u64) -> usize
 }
 
 // From p on, behind all keys that are lower, of the first n.
+#[tactic(auto, using(crate::proofs::Laws::skip_loop))]
 fn skip(keys: &[u64], n: usize, p: usize, key: u64) -> usize
     requires { (n ≤ length keys.now) × (p ≤ n) × KeysRise keys.now n }
     ensures { Skipped keys.now n p key result }
 {
-    let mut q = leap(keys, n, p, key);
-    while q < n {
+    for q in leap(keys, n, p, key)..n {
         if key <= keys[q] {
             return q;
         }
-        q += 1;
     }
-    q
+    n
 }
 
 // The key of symbol j's name.
@@ -69,12 +69,21 @@ fn symbol_key(f: &[u8], h: Header, j: u32) -> u64
 }
 
 // Where j, whose name has that key, goes among the first n, or where its name is. Only names with equal keys are compared.
-fn find(f: &[u8], h: Header, slots: &[u32], keys: &[u64], n: usize, j: u32, key: u64) -> Result<usize, usize>
+fn find(
+    f: &[u8],
+    h: Header,
+    slots: &[u32],
+    keys: &[u64],
+    n: usize,
+    j: u32,
+    key: u64,
+) -> Result<usize, usize>
     requires { (n ≤ length slots.now) × (n ≤ length keys.now) × InStep f.now h slots.now keys.now n × (key ≡ symbol_key f.now h j) × Rising f.now h (held n slots.now) }
     ensures { Placed f.now h j n (held n slots.now) result }
 {
     let name = names::symbol_span(f, h, j);
     let mut p = skip(keys, n, 0, key);
+    // A `while`, as it goes on by all lower keys.
     while p < n {
         if key < keys[p] {
             return Err(p);
@@ -94,38 +103,16 @@ fn find(f: &[u8], h: Header, slots: &[u32], keys: &[u64], n: usize, j: u32, key:
     Err(p)
 }
 
-// Makes room at p among the first n, and puts j there.
-fn put(slots: &mut [u32], n: usize, p: usize, j: u32)
-    requires { (n < length slots.old) × (p ≤ n) }
-    ensures { held (n + 1) slots.new ≡ put_at p j (held n slots.old) }
-{
-    let mut q = n;
-    while p < q {
-        slots[q] = slots[q - 1];
-        q -= 1;
-    }
-    slots[p] = j;
-}
-
-// The same for its key.
-fn put_key(keys: &mut [u64], n: usize, p: usize, key: u64)
-    requires { (n < length keys.old) × (p ≤ n) }
-    ensures { held (n + 1) keys.new ≡ put_at p key (held n keys.old) }
-{
-    let mut q = n;
-    while p < q {
-        keys[q] = keys[q - 1];
-        q -= 1;
-    }
-    keys[p] = key;
-}
-
+// Makes room at p among the first n, and puts j and its key there.
+#[tactic(auto, using(crate::proofs::Laws::put_copied))]
 fn put_both(slots: &mut [u32], keys: &mut [u64], n: usize, p: usize, j: u32, key: u64)
     requires { (n < length slots.old) × (n < length keys.old) × (p ≤ n) }
     ensures { PutBoth slots.old keys.old n p j key slots.new keys.new }
 {
-    put(slots, n, p, j);
-    put_key(keys, n, p, key);
+    slots.copy_within(p..n, p + 1);
+    slots[p] = j;
+    keys.copy_within(p..n, p + 1);
+    keys[p] = key;
 }
 
 // Of two symbols with one name, the lower number stays at p.
@@ -158,23 +145,22 @@ fn insert(f: &[u8], h: Header, slots: &mut [u32], keys: &mut [u64], n: usize, j:
 }
 
 // The code of a symbol once its name was put: the same, without putting it.
+#[tactic(auto, unfolding(crate::specs::Spent::spent, util::specs::Pick::pick))]
 fn spent(c: u16) -> u16
     ensures { result ≡ spent c }
 {
-    let undef = c == codes::UNDEF_EXTERN;
-    if undef {
-        codes::UNDEF_RECORD
-    } else {
-        codes::SLOT
+    match c {
+        codes::UNDEF_EXTERN => codes::UNDEF_RECORD,
+        _ => codes::SLOT,
     }
 }
 
 // Symbol j put its name: a second insertion would change nothing.
+#[tactic(auto, using(crate::proofs::Spending::spending))]
 fn spend(h: Header, codes: &mut [u16], j: u32)
     ensures { codes.new ≡ spend h codes.old j }
 {
-    let own = j < h.symbols;
-    if own {
+    if j < h.symbols {
         codes::put_code(codes, j, spent(codes::code_at(codes, j)));
     }
 }
@@ -200,20 +186,19 @@ fn add(
 }
 
 // From record k on, behind those that put no name; t has their bytes. A loop over nothing else, as most relocations of a file are passed by it.
+#[tactic(auto, using(crate::proofs::Spending::pass_loop))]
 fn pass(t: &[u8], codes: &[u16], k: usize) -> usize
     ensures { Passing t.now codes.now k result }
 {
-    let n = t.len() / object::RELOCATION_SIZE;
-    let mut q = k;
-    while q < n {
+    let n = k.max(t.len() / object::RELOCATION_SIZE);
+    for q in k..n {
         let at = object::RELOCATION_SIZE * q;
         let to = at + object::RELOCATION_SIZE;
         if codes::puts_in(codes, object::symbol_number(&t[at..to])) {
             return q;
         }
-        q += 1;
     }
-    q
+    n
 }
 
 // Inserts what the relocations of section i put into the first n.
@@ -235,6 +220,7 @@ fn add_records(
     let m = records.count as usize;
     let mut count = n;
     let mut k: usize = 0;
+    // A `while`, as `pass` goes on by all records that put no name.
     while k < m {
         let r = object::read_relocation(f, records, k as u32);
         let j = r.symbol;
@@ -253,53 +239,46 @@ fn add_records(
 }
 
 // `keys` are those of the names that `slots` holds.
-fn fill(f: &[u8], h: Header, codes: &mut [u16], slots: &mut [u32], keys: &mut [u64]) -> Option<usize>
+#[tactic(auto, using(crate::proofs::Spending::externs_loop))]
+fn fill(
+    f: &[u8],
+    h: Header,
+    codes: &mut [u16],
+    slots: &mut [u32],
+    keys: &mut [u64],
+) -> Option<usize>
     requires { (MAX_EXTERNS < length slots.old) × (MAX_EXTERNS < length keys.old) }
     ensures holds { Holds (externs_by f.now h (puts_in codes.old)) slots.new result }
     ensures left_for { LeftFor f.now h codes.old codes.new slots.new keys.new result }
 {
-    let m = h.sections as u32;
-    let mut count: usize = 0;
-    let mut i: u32 = 0;
-    while i < m {
-        match add_records(f, h, codes, slots, keys, count, i) {
-            None => {
-                return None;
-            }
-            Some(r) => {
-                count = r;
-            }
-        }
-        i += 1;
+    let mut count = 0;
+    for i in 0..u32::from(h.sections) {
+        count = add_records(f, h, codes, slots, keys, count, i)?;
     }
     Some(count)
 }
 
 // Zeros from `from` on.
+#[tactic(auto, using(crate::proofs::Laws::clear_loop))]
 fn clear(slots: &mut [u32], from: usize)
     ensures { slots.new ≡ splice slots.old from (replicate (length slots.old - from) 0) }
 {
-    let n = slots.len();
-    let mut i = from;
-    while i < n {
+    for i in from..slots.len() {
         le::put_word(slots, i, 0);
-        i += 1;
     }
 }
 
 // The order of a name, whose key is `own`, and that of symbol x, whose key is `other`. Only names with equal keys are compared.
 // It does not call name_order, which the compiler puts in line only where `find` alone calls it.
+#[tactic(auto, using(crate::proofs::Laws::entry_apart, crate::proofs::Laws::order_by))]
 fn entry_order(f: &[u8], h: Header, name: Span, own: u64, x: u32, other: u64) -> Ordering
     requires { (own ≡ key KEY_BYTES (span_text f.now name)) × (other ≡ symbol_key f.now h x) }
     ensures { result ≡ name_order f.now h (span_text f.now name) x }
 {
-    if own < other {
-        return Ordering::Less;
+    match own.cmp(&other) {
+        Ordering::Equal => order::compare(f, name, names::symbol_span(f, h, x)),
+        by_keys => by_keys,
     }
-    if other < own {
-        return Ordering::Greater;
-    }
-    order::compare(f, name, names::symbol_span(f, h, x))
 }
 
 // The slot of symbol j's name: its index in the list of externs, which is sorted. Of the n entries from lo the middle one decides.
@@ -311,6 +290,7 @@ fn slot_of(f: &[u8], h: Header, slots: &[u32], keys: &[u64], j: u32) -> Option<u
     let key = order::key(f, name);
     let mut lo: usize = 0;
     let mut n = slots.len();
+    // A `while`, and not the library's search in halves: that sees an entry without its place, and so without its key.
     while 0 < n {
         let half = n / 2;
         let middle = lo + half;
@@ -340,19 +320,23 @@ fn found_code(found: Option<usize>) -> u16
 }
 
 // Of a code that takes no slot: nothing is put any more.
+#[tactic(auto, unfolding(crate::specs::Slotted::settled, util::specs::Pick::pick))]
 fn settled(c: u16) -> u16
     ensures { result ≡ settled c }
 {
-    let undef = c == codes::UNDEF_EXTERN;
-    if undef { codes::UNDEF_RECORD } else { c }
+    match c {
+        codes::UNDEF_EXTERN => codes::UNDEF_RECORD,
+        _ => c,
+    }
 }
 
 // Symbol j's code, once the names are known.
+#[tactic(auto, using(crate::proofs::Laws::slot_ways))]
 fn slotted_code(f: &[u8], h: Header, slots: &[u32], keys: &[u64], j: u32, c: u16) -> u16
     requires { Keyed f.now h slots.now keys.now }
     ensures { result ≡ slotted_code c (slot_of f.now h slots.now (symbol_text f.now h j)) }
 {
-    if util::either(c == codes::SLOT, c == codes::EXTERN) {
+    if matches!(c, codes::SLOT | codes::EXTERN) {
         found_code(slot_of(f, h, slots, keys, j))
     } else {
         settled(c)
@@ -369,15 +353,13 @@ fn put_slot(f: &[u8], h: Header, slots: &[u32], keys: &[u64], codes: &mut [u16],
 }
 
 // The slots of all symbols, into their codes.
+#[tactic(auto, using(crate::proofs::Laws::slots_loop))]
 fn put_slots(f: &[u8], h: Header, slots: &[u32], keys: &[u64], codes: &mut [u16])
     requires { Keyed f.now h slots.now keys.now }
     ensures { codes.new ≡ slotted f.now h slots.now codes.old }
 {
-    let m = h.symbols;
-    let mut j: u32 = 0;
-    while j < m {
+    for j in 0..h.symbols {
         put_slot(f, h, slots, keys, codes, j);
-        j += 1;
     }
 }
 

@@ -1,5 +1,5 @@
 -- The ways through the code. Assumes nothing.
-use Rattle.std.proofs.Common.{◌≡◌, ℕ, ◌+◌, ◌%◌, ◌^◌, ◌<◌, Bool, true, false, arith, ne_eqb}
+use Rattle.std.proofs.Common.{◌≡◌, ℕ, ◌+◌, ◌-◌, ◌%◌, ◌^◌, ◌<◌, Bool, true, false, ◌⊎◌, ⊎_elim, arith, ne_eqb}
 use Rattle.util.specs.Pick.{pick}
 use Rattle.arch.specs.declared.RVA.{RVA}
 use Rattle.arch.specs.Address.{rva}
@@ -19,48 +19,13 @@ use Rattle.targets.specs.declared.Target.TheVariants as target
 use Rattle.targets.specs.declared.Target.TheVariants.{Home, Named, Slot, Missing}
 
 -- ---- outcomes
-module _ (k : RelocationKind) (x : Fix) where
-  pub by_absolute : k ≡ reloc.Absolute → Fixup x ≡ by_kind k x
-  unfolding by_kind
-  by_absolute e = rw e
-
-  pub by_image : k ≡ reloc.ImageOffset → Fixup x ≡ by_kind k x
-  unfolding by_kind
-  by_image e = rw e
-
-  pub by_section : k ≡ reloc.SectionOffset → Fixup x ≡ by_kind k x
-  unfolding by_kind
-  by_section e = rw e
-
-  pub by_relative : k ≡ reloc.Relative → Fixup x ≡ by_kind k x
-  unfolding by_kind
-  by_relative e = rw e
-
-  pub by_not_carried : k ≡ reloc.NotCarried → Refused ≡ by_kind k x
-  unfolding by_kind
-  by_not_carried e = rw e
-
-  pub by_unknown : k ≡ reloc.Unknown → Skipped NoType ≡ by_kind k x
-  unfolding by_kind
-  by_unknown e = rw e
-
-pub ruleset kind_ways = (by_absolute, by_image, by_section, by_relative, by_not_carried, by_unknown)
-
 pub fix_unpacked : (t u : RelocationType) (place o : RVA) (r : Outcome) → t ≡ u → r ≡ fix_at t place o → r ≡ fix_at u place o
 fix_unpacked t u place o r e q = rw (← e) q
 
 module _ (g : Target) (t : RelocationType) (place : RVA) where
-  pub resolved_home : (o : RVA) (r : Outcome) → g ≡ Home o → r ≡ fix_at t place o → r ≡ resolved g t place
+  pub resolved_offset : (o : RVA) (r : Outcome) → (g ≡ Home o) ⊎ ((g ≡ Named o) ⊎ (g ≡ Slot o)) → r ≡ fix_at t place o → r ≡ resolved g t place
   unfolding resolved
-  resolved_home o r e q = rw e q
-
-  pub resolved_named : (o : RVA) (r : Outcome) → g ≡ Named o → r ≡ fix_at t place o → r ≡ resolved g t place
-  unfolding resolved
-  resolved_named o r e q = rw e q
-
-  pub resolved_slot : (o : RVA) (r : Outcome) → g ≡ Slot o → r ≡ fix_at t place o → r ≡ resolved g t place
-  unfolding resolved
-  resolved_slot o r e q = rw e q
+  resolved_offset o r e q = ⊎_elim (λ x. rw x q) (λ y. ⊎_elim (λ x. rw x q) (λ x. rw x q) y) e
 
   pub resolved_missing : (k : Skip) → g ≡ Missing k → Skipped k ≡ resolved g t place
   unfolding resolved
@@ -70,27 +35,27 @@ module _ (g : Target) (t : RelocationType) (place : RVA) where
   unfolding resolved
   resolved_refused e = rw e
 
-pub ruleset resolving = (resolved_home, resolved_named, resolved_slot, resolved_missing, resolved_refused)
+pub ruleset resolving = (resolved_offset, resolved_missing, resolved_refused)
 
 module _ (w address : ℕ) (t : RelocationType) (g : Target) where
   pub home_none : w ≡ 0 → Passed ≡ outcome_at (word_home w) address t g
   unfolding outcome_at word_home pick
   home_none e = rw e
 
-  pub home_some : (x : Outcome) (s : RVA) → (w ≡ 0 → ⊥) → s ≡ rva (word_start w) → x ≡ resolved g t (rva (s.0 + address)) → x ≡ outcome_at (word_home w) address t g
+  pub home_some : (x : Outcome) (s : RVA) (n : ℕ) → (w ≡ 0 → ⊥) → s ≡ rva (word_start w) → x ≡ resolved g t (rva (s.0 + n)) → n ≡ address → x ≡ outcome_at (word_home w) address t g
   unfolding outcome_at word_home pick
-  home_some x s n e q = rw (ne_eqb w 0 n) (rw e at q)
+  home_some x s n z e q a = rw (ne_eqb w 0 z) (rw (e, a) at q)
 
 pub ruleset outcome_ways = (home_none, home_some)
 
 -- ---- values
-module _ (base : ℕ) (x : Fix) (s r : ℕ) (b : Bool) where
-  pub value_relative : s ≡ (x.target.0 + x.addend) % 2 ^ 64 → b ≡ is_relative x.kind → b ≡ true → x.place.0 < 2 ^ 64 → r < 2 ^ 64 → (r + x.place.0) % 2 ^ 64 ≡ s → r ≡ value_of base x
+module _ (base : ℕ) (x : Fix) (b : Bool) where
+  pub value_relative : b ≡ is_relative x.kind → b ≡ true → x.place.0 < 2 ^ 64 → ((x.target.0 + x.addend) % 2 ^ 64 + (2 ^ 64 - x.place.0)) % 2 ^ 64 ≡ value_of base x
   unfolding value_of pick
-  value_relative e q d p w g = rw (← q, d) (omega arith)
+  value_relative q d p = rw (← q, d) (omega arith)
 
-  pub value_based : s ≡ (x.target.0 + x.addend) % 2 ^ 64 → b ≡ is_relative x.kind → b ≡ false → r ≡ (s + base) % 2 ^ 64 → r ≡ value_of base x
+  pub value_based : b ≡ is_relative x.kind → b ≡ false → ((x.target.0 + x.addend) % 2 ^ 64 + base) % 2 ^ 64 ≡ value_of base x
   unfolding value_of pick
-  value_based e q d g = rw (← q, d) (omega arith)
+  value_based q d = rw (← q, d) (omega arith)
 
 pub ruleset values = (value_relative, value_based)

@@ -160,7 +160,10 @@ counted_near g r i c = c.near
 pub none_within : AtMost (record { passed = 0; skips = 0; refused = 0; fixups = 0; outside = 0 }) (2 ^ 32 * 0)
 none_within = record { passed = omega arith; skips = omega arith; refused = omega arith; fixups = omega arith; outside = omega arith }
 
-pub ruleset rows_loop = (rows_none, rows_again, rows_end, counted_near, none_within)
+pub rows_near : (t : Tally) (i n : ℕ) → AtMost t (2 ^ 32 * i) → i ≤ n → n < 2 ^ 16 → AtMost t (2 ^ 48)
+rows_near t i n w k l = within_more t (2 ^ 32 * i) (2 ^ 48) w (omega arith)
+
+pub ruleset rows_loop = (rows_none, rows_again, rows_end, rows_near, counted_near, none_within)
 
 -- ---- a section by what is found once for it
 pub read_is : (a : Arch) (f : List ℕ) (target : ℕ → Target) (rs : Records) (home : Option RVA) (i k : ℕ) (x : Outcome)
@@ -213,12 +216,4 @@ passed_section a f h homes target pages i w n t r e z q l d m =
 pub passed_within : (t : Tally) (i : ℕ) → AtMost t (2 ^ 32 * i) → i < 2 ^ 16 → AtMost t (2 ^ 60)
 passed_within t i w l = within_more t (2 ^ 32 * i) (2 ^ 60) w (omega arith)
 
-pub rows_near : (t : Tally) (i n : ℕ) → AtMost t (2 ^ 32 * i) → i ≤ n → n < 2 ^ 16 → AtMost t (2 ^ 48)
-rows_near t i n w k l = within_more t (2 ^ 32 * i) (2 ^ 48) w (omega arith)
-
-pub passed_again : (a : Arch) (f : List ℕ) (h : Header) (homes : List ℕ) (target : ℕ → Target) (pages i w n : ℕ) (s r : Tally) → s ≡ rows_to pages (outcome a f h (home_in homes) target) (relocation_count f h) i
-    → w ≡ get_or homes i 0 → w ≡ 0 → n ≡ relocation_count f h i → n < 2 ^ 32 → r ≡ passed_by s n → AtMost s (2 ^ 32 * i) → r ≡ rows_to pages (outcome a f h (home_in homes) target) (relocation_count f h) (i + 1)
-passed_again a f h homes target pages i w n s r e k z q l d m =
-    rows_again pages (outcome a f h (home_in homes) target) (relocation_count f h) i s r e (passed_section a f h homes target pages i w n s r k z q l d m)
-
-pub ruleset homeless = (passed_within, passed_again, passed_near)
+pub ruleset homeless = (passed_within, passed_section)

@@ -23,7 +23,7 @@ use Rattle.fixups.specs.declared.Fix.{Fix}
 use Rattle.fixups.specs.declared.Outcome.{Outcome}
 use Rattle.fixups.specs.declared.Outcome.TheVariants.{Passed, Skipped, Refused, Fixup}
 
--- the refusal of each case (01, "Survey"), 0 where there is none
+-- the refusal of each case (01, "Survey"); it passes where there is none
 abbrev pub outcome_refusal : Outcome → Code
 outcome_refusal Passed = PASSES
 outcome_refusal (Skipped k) = PASSES

@@ -1,5 +1,6 @@
 -- What a fixup tells of its relocation; a home's relocations are not passed, and are refused where their targets are; for every file, all homes and all slots.
-use Rattle.std.specs.Prelude.{◌≡◌, ℕ, suc, ◌+◌, false, ◌⊎◌, List, None, Option, Some}
+use Rattle.std.specs.Prelude.{◌≡◌, ℕ, suc, ◌+◌, false, ◌⊎◌, List, None, Option, Some, Err}
+use Rattle.refusal.specs.declared.Refusal.{Refusal}
 use Rattle.std.proofs.Math.Path.{refl}
 use Rattle.std.proofs.Common.{sym, ap, ◌∙◌, inl, inr, ⊎_elim, arith}
 use Rattle.util.specs.Pick.{pick_either}
@@ -148,16 +149,16 @@ homed_not_passed a f h home target i k start e =
     rw e (resolved_not_passed (target (relocation_symbol f h i k)) (type_of a (relocation_type f h i k)) (rva (start.0 + relocation_address f h i k)))
 
 -- ---- a target's refusal is its relocation's, whatever the type
-resolved_refused : (g : Target) (t : RelocationType) (place : RVA) (n : ℕ) → target_refusal g ≡ suc n → outcome_refusal (resolved g t place) ≡ suc n
+resolved_refused : (g : Target) (t : RelocationType) (place : RVA) (r : Refusal) → target_refusal g ≡ Err r → outcome_refusal (resolved g t place) ≡ Err r
 unfolding resolved
-resolved_refused (Home o) t place n e = absurd (omega arith)
-resolved_refused (Named o) t place n e = absurd (omega arith)
-resolved_refused (Slot o) t place n e = absurd (omega arith)
-resolved_refused (Missing k) t place n e = absurd (omega arith)
-resolved_refused target.Refused t place n e = e
+resolved_refused (Home o) t place r e = absurd (let w : ◌≡◌ {A = ℕ} 0 1 = cc in omega arith)
+resolved_refused (Named o) t place r e = absurd (let w : ◌≡◌ {A = ℕ} 0 1 = cc in omega arith)
+resolved_refused (Slot o) t place r e = absurd (let w : ◌≡◌ {A = ℕ} 0 1 = cc in omega arith)
+resolved_refused (Missing k) t place r e = absurd (let w : ◌≡◌ {A = ℕ} 0 1 = cc in omega arith)
+resolved_refused target.Refused t place r e = e
 
-pub homed_refused : (a : Arch) (f : List ℕ) (h : Header) (home : ℕ → Option RVA) (target : ℕ → Target) (i k : ℕ) (start : RVA) (n : ℕ) → home i ≡ Some start
-    → target_refusal (target (relocation_symbol f h i k)) ≡ suc n → outcome_refusal (outcome a f h home target i k) ≡ suc n
+pub homed_refused : (a : Arch) (f : List ℕ) (h : Header) (home : ℕ → Option RVA) (target : ℕ → Target) (i k : ℕ) (start : RVA) (r : Refusal) → home i ≡ Some start
+    → target_refusal (target (relocation_symbol f h i k)) ≡ Err r → outcome_refusal (outcome a f h home target i k) ≡ Err r
 unfolding outcome outcome_at relocation_in
-homed_refused a f h home target i k start n e r =
-    rw e (resolved_refused (target (relocation_symbol f h i k)) (type_of a (relocation_type f h i k)) (rva (start.0 + relocation_address f h i k)) n r)
+homed_refused a f h home target i k start r e q =
+    rw e (resolved_refused (target (relocation_symbol f h i k)) (type_of a (relocation_type f h i k)) (rva (start.0 + relocation_address f h i k)) r q)

@@ -1,5 +1,5 @@
 -- How many relocations come to each outcome (01, "Layout, slots and fixups", refusals 10 and 11), over all sections and their records.
-use Rattle.std.specs.Prelude.{ℕ, ◌+◌, ◌*◌, ◌/◌, Bool, true, false, not, ◌==◌, nat_le}
+use Rattle.std.specs.Prelude.{ℕ, ◌+◌, ◌*◌, ◌/◌, Bool, true, false, not, is_ok, nat_le}
 use Rattle.util.specs.Pick.{pick}
 use Rattle.util.specs.Fold.{fold_sections}
 use Rattle.arch.specs.Page.{PAGE_SIZE}
@@ -25,7 +25,7 @@ is_skipped (Fixup x) = false
 
 -- refusal 10
 abbrev pub is_refused : Outcome → Bool
-is_refused o = not (outcome_refusal o == 0)
+is_refused o = not (is_ok (outcome_refusal o))
 
 -- it is a fixup
 abbrev pub is_fixup : Outcome → Bool

@@ -2,11 +2,13 @@
 #![tactic(auto)]
 
 mod outcomes;
+mod resolver;
 mod tallies;
 
 use arch::RVA;
 use kinds::RelocationKind;
 pub use outcomes::{outcome_at, value};
+pub use resolver::{Resolver, types_of};
 pub use tallies::tally_of;
 use targets::Skip;
 

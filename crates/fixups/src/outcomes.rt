@@ -10,48 +10,46 @@ use arch::{RVA, VA};
 use kinds::RelocationKind;
 use targets::{Skip, Target};
 
+#[tactic(auto, unfolding(crate::specs::Outcome::by_kind))]
 fn by_kind(kind: RelocationKind, x: Fix) -> Outcome
     ensures { result ≡ by_kind kind x }
 {
     match kind {
-        RelocationKind::Absolute => Outcome::Fixup(x),
-        RelocationKind::ImageOffset => Outcome::Fixup(x),
-        RelocationKind::SectionOffset => Outcome::Fixup(x),
-        RelocationKind::Relative => Outcome::Fixup(x),
         RelocationKind::NotCarried => Outcome::Refused,
         RelocationKind::Unknown => Outcome::Skipped(Skip::NoType),
+        _ => Outcome::Fixup(x),
     }
 }
 
 // Here the symbol has a target, so the type's row is unpacked.
+#[tactic(auto, using(crate::proofs::Laws::fix_unpacked))]
 fn fix_at(row: u8, place: RVA, target: RVA) -> Outcome
     ensures { result ≡ fix_at (unpacked row) place target }
 {
     let t = kinds::unpack(row);
-    let kind = t.kind;
     let x = Fix {
-        place: place,
+        place,
         bits: t.bits,
-        kind: kind,
-        target: target,
+        kind: t.kind,
+        target,
         addend: t.addend,
     };
-    by_kind(kind, x)
+    by_kind(t.kind, x)
 }
 
+#[tactic(auto, using(crate::proofs::Laws::resolving))]
 fn resolved(target: Target, row: u8, place: RVA) -> Outcome
     ensures { result ≡ resolved target (unpacked row) place }
 {
     match target {
-        Target::Home(o) => fix_at(row, place, o),
-        Target::Named(o) => fix_at(row, place, o),
-        Target::Slot(o) => fix_at(row, place, o),
+        Target::Home(o) | Target::Named(o) | Target::Slot(o) => fix_at(row, place, o),
         Target::Missing(k) => Outcome::Skipped(k),
         Target::Refused => Outcome::Refused,
     }
 }
 
 // What becomes of a relocation with that address field: `word` is what is kept of its section's home, `row` is its type's, g what its symbol comes to.
+#[tactic(auto, using(crate::proofs::Laws::outcome_ways))]
 pub fn outcome_at(word: u32, address: u32, row: u8, g: Target) -> Outcome
     ensures { result ≡ outcome_at (word_home word) address (unpacked row) g }
 {
@@ -59,32 +57,25 @@ pub fn outcome_at(word: u32, address: u32, row: u8, g: Target) -> Outcome
         Outcome::Passed
     } else {
         let start = homes::word_start(word);
-        resolved(g, row, RVA(start.0 + address as u64))
+        resolved(g, row, RVA(start.0 + u64::from(address)))
     }
 }
 
 fn is_relative(kind: RelocationKind) -> bool
     ensures { result ≡ is_relative kind }
 {
-    match kind {
-        RelocationKind::Absolute => false,
-        RelocationKind::ImageOffset => false,
-        RelocationKind::SectionOffset => false,
-        RelocationKind::Relative => true,
-        RelocationKind::NotCarried => false,
-        RelocationKind::Unknown => false,
-    }
+    matches!(kind, RelocationKind::Relative)
 }
 
 // What a fixup's place takes, in two's complement.
+#[tactic(auto, using(crate::proofs::Laws::values))]
 pub fn value(base: VA, x: Fix) -> u64
     ensures { result ≡ value_of base.0 x }
 {
-    let kind = x.kind;
-    let sum = std::num::wrapping_add_u64(x.target.0, x.addend);
-    if is_relative(kind) {
-        std::num::wrapping_sub_u64(sum, x.place.0)
+    let sum = x.target.0.wrapping_add(x.addend);
+    if is_relative(x.kind) {
+        sum.wrapping_sub(x.place.0)
     } else {
-        std::num::wrapping_add_u64(sum, base.0)
+        sum.wrapping_add(base.0)
     }
 }

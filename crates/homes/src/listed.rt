@@ -34,7 +34,8 @@ fn word_record(word: u32) -> u32
 fn record_of_number(homes: &[u32], n: u32) -> u32
     ensures { result ≡ by_number (record_in homes.now) 0 n }
 {
-    n.checked_sub(1).map_or(0, |i| word_record(le::word_at(homes, i as usize)))
+    n.checked_sub(1)
+        .map_or(0, |i| word_record(le::word_at(homes, i as usize)))
 }
 
 // The table record of a place's home; 0 outside the sections.

@@ -1,8 +1,8 @@
 -- What the library's slices and numbers give, in the words of specs/Le.antt. Assumes nothing.
 use Rattle.std.specs.Prelude.{◌≡◌, List, [], ◌∷◌, ◌++◌, ℕ, zero, suc, ◌+◌, ◌-◌, ◌*◌, ◌/◌, ◌%◌, ◌^◌, ◌≤◌, ◌<◌, min, length, get_or, set, take, drop, replicate, refl}
-use Rattle.std.proofs.Common.{sym, ap, ◌∙◌, ⊎_elim, arith, add-zero, add-one, zero-add, suc-add, add-suc, pow-suc, length-drop, length-take, get_or-drop, mul_comm, subst}
-use Rattle.std.proofs.Math.Nat.{pow-zero, div-one, div-div-eq-div-mul, zero-div, div-eq_of_lt}
-use Rattle.std.proofs.lemmas.List.{take_min, take_all, take-append-drop, take-replicate, length-take-le, length-replicate, drop_all, append-nil}
+use Rattle.std.proofs.Common.{sym, ap, ◌∙◌, ⊎_elim, arith, zero-add, suc-add, pow-suc, length-drop, length-take, get_or-drop, subst}
+use Rattle.std.proofs.Math.Nat.{pow-zero, div-one, div-div-eq-div-mul}
+use Rattle.std.proofs.lemmas.List.{take_min, take_all, take-append-drop, take-replicate, length-take-le, length-replicate, drop_all}
 use Rattle.std.proofs.lemmas.List.Edits.{sets, sets-eq}
 use Rattle.std.proofs.Math.Seq.{paste}
 use Rattle.std.specs.Int.{byte_at, byte_worth, bytes_low_first, sum_through}

@@ -138,6 +138,7 @@ pub fn put_u64(b: &mut [u8], at: usize, v: u64)
 }
 
 // The same for 32-bit words: the one at `at`, 0 past the end; one put there; and the first `n`, as far as there are any.
+// Functions of their own, as `splice` and `part` are of numbers: no contract over a type parameter could name them.
 pub fn word_at(s: &[u32], at: usize) -> u32
     ensures { result ≡ get_or s.now at 0 }
 {

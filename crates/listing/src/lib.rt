@@ -3,9 +3,8 @@
 
 ghost use Rattle.std.specs.Prelude.{◌≡◌, ◌+◌, ◌*◌, ◌%◌, ◌^◌, ◌<◌, [], slice_index_or};
 ghost use Rattle.limits.specs.Records.{WORD, SECTION_WORDS, SECTION_START, SECTION_END, SECTION_FILE_START, SECTION_FILE_END, SECTION_PERMISSIONS, ADDRESS};
-ghost use Rattle.kinds.specs.Symbol.{kind_numbered};
 ghost use Rattle.words.specs.Words.{word_of};
-ghost use Rattle.text.specs.Text.{Puts};
+ghost use Rattle.text.specs.Text.{Wrote};
 ghost use Rattle.lines.specs.Lines.{section_line};
 ghost use Rattle.listing.specs.Listing.{
   section_line_at,
@@ -31,8 +30,13 @@ use limits::{
     SKIP_REASON, SKIP_RECORD, SKIP_SECTION, SKIP_WORDS, SYMBOL_KIND, SYMBOL_WORDS, WORD,
 };
 use survey::Counts;
+use text::Writer;
+
+// What the record of UNDEF has in place of a section's number.
+const UNDEF_NUMBER: u64 = 0;
 
 // Word w of record i, where a record has `width` words.
+#[tactic(auto, unfolding(words::specs::Words::word_of))]
 fn word(table: &[u8], width: u8, i: u32, w: u8) -> u64
     requires { WORD * (width * i + w) < 2 ^ 64 }
     ensures { result ≡ word_of width table.now i w }
@@ -40,38 +44,10 @@ fn word(table: &[u8], width: u8, i: u32, w: u8) -> u64
     le::u64_at(table, WORD * (width as usize * i as usize + w as usize))
 }
 
-// The kind that a number of the tables has.
-fn kind_of(n: u64) -> SymbolKind
-    ensures { result ≡ kind_numbered n }
-{
-    let text = n == 1;
-    if text {
-        return SymbolKind::Text;
-    }
-    let data = n == 2;
-    if data {
-        return SymbolKind::Data;
-    }
-    let section = n == 3;
-    if section {
-        return SymbolKind::Section;
-    }
-    let file = n == 4;
-    if file {
-        return SymbolKind::File;
-    }
-    let label = n == 5;
-    if label {
-        SymbolKind::Label
-    } else {
-        SymbolKind::Unknown
-    }
-}
-
-fn section_named(t: &[u8], i: u32, name: &[u8], out: &mut [u8]) -> usize
-    ensures { Puts out.old 0
+fn section_named(t: &[u8], i: u32, name: &[u8], out: &mut Writer)
+    ensures { Wrote out.old
         (section_line (word_of SECTION_WORDS t.now i SECTION_START) (word_of SECTION_WORDS t.now i SECTION_END) (word_of SECTION_WORDS t.now i SECTION_FILE_START) (word_of SECTION_WORDS t.now i SECTION_FILE_END) (word_of SECTION_WORDS t.now i SECTION_PERMISSIONS) name.now)
-        out.new result }
+        out.new }
 {
     lines::section_line(
         out,
@@ -81,27 +57,27 @@ fn section_named(t: &[u8], i: u32, name: &[u8], out: &mut [u8]) -> usize
         word(t, SECTION_WORDS, i, SECTION_FILE_END),
         word(t, SECTION_WORDS, i, SECTION_PERMISSIONS),
         name,
-    )
+    );
 }
 
 // UNDEF has no number, and no name in the file.
-fn section_at(f: &[u8], t: &[u8], i: u32, out: &mut [u8]) -> usize
-    ensures { Puts out.old 0 (section_line_at f.now t.now i) out.new result }
+fn section_at(f: &[u8], t: &[u8], i: u32, out: &mut Writer)
+    ensures { Wrote out.old (section_line_at f.now t.now i) out.new }
 {
-    if word(t, SECTION_WORDS, i, SECTION_FILE_NUMBER) == 0 {
-        section_named(t, i, b"UNDEF", out)
+    if word(t, SECTION_WORDS, i, SECTION_FILE_NUMBER) == UNDEF_NUMBER {
+        section_named(t, i, b"UNDEF", out);
     } else {
         let name = le::part(
             f,
             word(t, SECTION_WORDS, i, SECTION_NAME_START) as usize,
             word(t, SECTION_WORDS, i, SECTION_NAME_LENGTH) as usize,
         );
-        section_named(t, i, name, out)
+        section_named(t, i, name, out);
     }
 }
 
-fn symbol_at(f: &[u8], t: &[u8], i: u32, out: &mut [u8]) -> usize
-    ensures { Puts out.old 0 (symbol_line_at f.now t.now i) out.new result }
+fn symbol_at(f: &[u8], t: &[u8], i: u32, out: &mut Writer)
+    ensures { Wrote out.old (symbol_line_at f.now t.now i) out.new }
 {
     let name = le::part(
         f,
@@ -111,163 +87,142 @@ fn symbol_at(f: &[u8], t: &[u8], i: u32, out: &mut [u8]) -> usize
     lines::symbol_line(
         out,
         VA(word(t, SYMBOL_WORDS, i, ADDRESS)),
-        kind_of(word(t, SYMBOL_WORDS, i, SYMBOL_KIND)),
+        SymbolKind::from(word(t, SYMBOL_WORDS, i, SYMBOL_KIND)),
         name,
-    )
+    );
 }
 
-fn extern_at(f: &[u8], t: &[u8], i: u32, out: &mut [u8]) -> usize
-    ensures { Puts out.old 0 (extern_line_at f.now t.now i) out.new result }
+fn extern_at(f: &[u8], t: &[u8], i: u32, out: &mut Writer)
+    ensures { Wrote out.old (extern_line_at f.now t.now i) out.new }
 {
     let name = le::part(
         f,
         word(t, EXTERN_WORDS, i, NAME_START) as usize,
         word(t, EXTERN_WORDS, i, NAME_LENGTH) as usize,
     );
-    lines::extern_line(out, VA(word(t, EXTERN_WORDS, i, ADDRESS)), name)
+    lines::extern_line(out, VA(word(t, EXTERN_WORDS, i, ADDRESS)), name);
 }
 
-fn fix_at(t: &[u8], i: u32, out: &mut [u8]) -> usize
-    ensures { Puts out.old 0 (fix_line_at t.now i) out.new result }
+fn fix_at(t: &[u8], i: u32, out: &mut Writer)
+    ensures { Wrote out.old (fix_line_at t.now i) out.new }
 {
     lines::fix_line(
         out,
         VA(word(t, FIXUP_WORDS, i, FIXUP_PLACE)),
         word(t, FIXUP_WORDS, i, FIXUP_BITS),
         word(t, FIXUP_WORDS, i, FIXUP_VALUE),
-    )
+    );
 }
 
-fn skip_at(t: &[u8], i: u32, out: &mut [u8]) -> usize
-    ensures { Puts out.old 0 (skip_line_at t.now i) out.new result }
+fn skip_at(t: &[u8], i: u32, out: &mut Writer)
+    ensures { Wrote out.old (skip_line_at t.now i) out.new }
 {
     lines::skip_line(
         out,
         word(t, SKIP_WORDS, i, SKIP_SECTION),
         word(t, SKIP_WORDS, i, SKIP_RECORD),
         word(t, SKIP_WORDS, i, SKIP_REASON),
-    )
+    );
 }
 
-// Line k of those from the skips on; past the last there is none.
-fn from_skips(c: Counts, skips: &[u8], k: u32, out: &mut [u8]) -> usize
-    ensures { Puts out.old 0 (slice_index_or (from_skips c skips.now) k []) out.new result }
-{
-    let n = c.skips;
-    if (k as u64) < n {
-        return skip_at(skips, k, out);
-    }
-    if k as u64 == n {
-        lines::skipped_line(out, n, c.passed)
-    } else {
-        0
-    }
+// A loaded object: its file, how many records its tables have, and the tables that load wrote.
+#[derive(Clone, Copy)]
+pub struct Tables<'a> {
+    pub file: &'a [u8],
+    pub counts: Counts,
+    pub sections: &'a [u8],
+    pub symbols: &'a [u8],
+    pub externs: &'a [u8],
+    pub fixups: &'a [u8],
+    pub skips: &'a [u8],
 }
 
-fn from_fixups(c: Counts, fixups: &[u8], skips: &[u8], k: u32, out: &mut [u8]) -> usize
-    ensures { Puts out.old 0 (slice_index_or (from_fixups c fixups.now skips.now) k []) out.new result }
-{
-    let n = c.fixups;
-    if (k as u64) < n {
-        fix_at(fixups, k, out)
-    } else {
-        from_skips(c, skips, k - n as u32, out)
+impl Tables<'_> {
+    // Line k of those from the skips on; past the last there is none.
+    fn from_skips(&self, k: u32, out: &mut Writer)
+        ensures { Wrote out.old (slice_index_or (from_skips self.now.counts self.now.skips.now) k []) out.new }
+    {
+        let n = self.counts.skips;
+        if u64::from(k) < n {
+            skip_at(self.skips, k, out);
+        } else if u64::from(k) == n {
+            lines::skipped_line(out, n, self.counts.passed);
+        }
     }
-}
 
-fn from_externs(
-    f: &[u8],
-    c: Counts,
-    externs: &[u8],
-    fixups: &[u8],
-    skips: &[u8],
-    k: u32,
-    out: &mut [u8],
-) -> usize
-    ensures { Puts out.old 0 (slice_index_or (from_externs f.now c externs.now fixups.now skips.now) k []) out.new result }
-{
-    let n = c.externs;
-    if (k as u64) < n {
-        extern_at(f, externs, k, out)
-    } else {
-        from_fixups(c, fixups, skips, k - n as u32, out)
+    fn from_fixups(&self, k: u32, out: &mut Writer)
+        ensures { Wrote out.old (slice_index_or (from_fixups self.now.counts self.now.fixups.now self.now.skips.now) k []) out.new }
+    {
+        let n = self.counts.fixups;
+        if u64::from(k) < n {
+            fix_at(self.fixups, k, out);
+        } else {
+            self.from_skips(k - n as u32, out);
+        }
     }
-}
 
-fn from_symbols(
-    f: &[u8],
-    c: Counts,
-    symbols: &[u8],
-    externs: &[u8],
-    fixups: &[u8],
-    skips: &[u8],
-    k: u32,
-    out: &mut [u8],
-) -> usize
-    ensures { Puts out.old 0 (slice_index_or (from_symbols f.now c symbols.now externs.now fixups.now skips.now) k []) out.new result }
-{
-    let n = c.symbols;
-    if (k as u64) < n {
-        symbol_at(f, symbols, k, out)
-    } else {
-        from_externs(f, c, externs, fixups, skips, k - n as u32, out)
+    fn from_externs(&self, k: u32, out: &mut Writer)
+        ensures { Wrote out.old
+            (slice_index_or (from_externs self.now.file.now self.now.counts self.now.externs.now self.now.fixups.now self.now.skips.now) k [])
+            out.new }
+    {
+        let n = self.counts.externs;
+        if u64::from(k) < n {
+            extern_at(self.file, self.externs, k, out);
+        } else {
+            self.from_fixups(k - n as u32, out);
+        }
     }
-}
 
-fn from_sections(
-    f: &[u8],
-    c: Counts,
-    sections: &[u8],
-    symbols: &[u8],
-    externs: &[u8],
-    fixups: &[u8],
-    skips: &[u8],
-    k: u32,
-    out: &mut [u8],
-) -> usize
-    ensures { Puts out.old 0
-        (slice_index_or (from_sections f.now c sections.now symbols.now externs.now fixups.now skips.now) k [])
-        out.new result }
-{
-    let n = c.sections;
-    if (k as u64) < n {
-        section_at(f, sections, k, out)
-    } else {
-        from_symbols(f, c, symbols, externs, fixups, skips, k - n as u32, out)
+    fn from_symbols(&self, k: u32, out: &mut Writer)
+        ensures { Wrote out.old
+            (slice_index_or (from_symbols self.now.file.now self.now.counts self.now.symbols.now self.now.externs.now self.now.fixups.now self.now.skips.now) k [])
+            out.new }
+    {
+        let n = self.counts.symbols;
+        if u64::from(k) < n {
+            symbol_at(self.file, self.symbols, k, out);
+        } else {
+            self.from_externs(k - n as u32, out);
+        }
     }
-}
 
-// The answer is how many bytes of the buffer the line takes; past the last line there is none.
-pub fn line(
-    f: &[u8],
-    base: VA,
-    c: Counts,
-    sections: &[u8],
-    symbols: &[u8],
-    externs: &[u8],
-    fixups: &[u8],
-    skips: &[u8],
-    k: u32,
-    out: &mut [u8],
-) -> usize
-    ensures { Puts out.old 0
-        (slice_index_or (listing f.now base.0 c sections.now symbols.now externs.now fixups.now skips.now) k [])
-        out.new result }
-{
-    if k == 0 {
-        lines::image_line(out, base, c.pages)
-    } else {
-        from_sections(f, c, sections, symbols, externs, fixups, skips, k - 1, out)
+    fn from_sections(&self, k: u32, out: &mut Writer)
+        ensures { Wrote out.old
+            (slice_index_or (from_sections self.now.file.now self.now.counts self.now.sections.now self.now.symbols.now self.now.externs.now self.now.fixups.now self.now.skips.now) k [])
+            out.new }
+    {
+        let n = self.counts.sections;
+        if u64::from(k) < n {
+            section_at(self.file, self.sections, k, out);
+        } else {
+            self.from_symbols(k - n as u32, out);
+        }
+    }
+
+    // Line k of an object loaded at `base`; past the last line there is none.
+    pub fn line(&self, base: VA, k: u32, out: &mut Writer)
+        ensures { Wrote out.old
+            (slice_index_or (listing self.now.file.now base.0 self.now.counts self.now.sections.now self.now.symbols.now self.now.externs.now self.now.fixups.now self.now.skips.now) k [])
+            out.new }
+    {
+        if k == 0 {
+            lines::image_line(out, base, self.counts.pages);
+        } else {
+            self.from_sections(k - 1, out);
+        }
     }
 }
 
 // How many lines there are, in 64 bits.
+#[tactic(auto, using(crate::proofs::Laws::wraps), unfolding(crate::specs::Listing::line_count))]
 pub fn line_count(c: Counts) -> u64
     ensures { result ≡ line_count c % 2 ^ 64 }
 {
-    let a = std::num::wrapping_add_u64(c.sections, c.symbols);
-    let b = std::num::wrapping_add_u64(a, c.externs);
-    let d = std::num::wrapping_add_u64(b, c.fixups);
-    let e = std::num::wrapping_add_u64(d, c.skips);
-    std::num::wrapping_add_u64(e, 2)
+    c.sections
+        .wrapping_add(c.symbols)
+        .wrapping_add(c.externs)
+        .wrapping_add(c.fixups)
+        .wrapping_add(c.skips)
+        .wrapping_add(2)
 }

@@ -1,10 +1,10 @@
 -- What an accepted load says and leaves: the file is accepted, the base allowed, there was room; each buffer's counted part is its table, and what lies behind it is as it was.
 use Rattle.refusal.specs.declared.Refusal.{Refusal}
-use Rattle.std.specs.Prelude.{◌≡◌, refl, true, false, ℕ, zero, suc, ◌-◌, ◌*◌, ◌≤◌, eqb, leb, length, get_or, Result, Ok, Err}
+use Rattle.std.specs.Prelude.{◌≡◌, refl, true, false, ℕ, ◌-◌, ◌*◌, ◌≤◌, eqb, leb, length, get_or, Result, Ok, Err}
 use Rattle.std.proofs.Common.{sym, ◌∙◌, arith}
 use Rattle.std.proofs.Math.Path.{ap}
 use mathlib.Core.List.{List, [], ◌∷◌, ◌++◌}
-use borrow.Author.Tests.{leb-true, ne_eqb}
+use borrow.Author.Tests.{leb-true}
 use Rattle.util.specs.Pick.{pick}
 use Rattle.arch.specs.Page.{PAGE_SIZE}
 use Rattle.le.specs.Le.{splice, part, part_splice, splice_above}
@@ -17,7 +17,8 @@ use Rattle.limits.specs.Limits.{MAX_PAGES, MAX_EXTERNS}
 use Rattle.limits.specs.Records.{SECTION_BYTES, SYMBOL_BYTES, EXTERN_BYTES, FIXUP_BYTES, SKIP_BYTES}
 use Rattle.externs.specs.Externs.{externs}
 use Rattle.fixups.specs.Tally.{is_fixup, is_skipped, how_many, tally_of}
-use Rattle.refusal.specs.Refusal.{TARGET, PLACE, BASE, STORAGE}
+use Rattle.refusal.specs.declared.Refusal.TheVariants.{Base, Target, Place, Storage}
+use Rattle.refusal.specs.Refusal.{Code, PASSES, PLACE, STORAGE, answer_of, unless_refused}
 use Rattle.survey.specs.declared.answer.Counts.{Counts}
 use Rattle.homes.specs.Listed.{listed_total}
 use Rattle.survey.specs.Survey.{Check, check, first_failed, extern_checks, target_checks, checks, counts, counts_by, tally, outcomes, answer_by, survey_of}
@@ -39,21 +40,15 @@ use Rattle.storage.specs.Storage.{Storage, stored_by, stored}
 use Rattle.loading.specs.Load.{lengths_of, room_ok, load_checks, load_answer, Loads}
 
 -- ---- an answer tells its code
-pub tells_loaded : (code : ℕ) (a c : Counts) → load_answer code a ≡ Ok c → (code ≡ 0) × (a ≡ c)
-unfolding load_answer pick
-tells_loaded zero a c e = (refl, cc)
-tells_loaded (suc n) a c e =
-    let t : eqb (suc n) 0 ≡ false = ne_eqb (suc n) 0 (λ z. absurd (omega arith)) in
-    let z : Err (suc n) ≡ Ok c = rw t at e in
-    absurd (let w : ◌≡◌ {A = ℕ} 0 1 = cc in omega arith)
+pub tells_loaded : (code : Code) (a c : Counts) → load_answer code a ≡ Ok c → (code ≡ PASSES) × (a ≡ c)
+unfolding answer_of
+tells_loaded (Ok u) a c e = (refl, cc)
+tells_loaded (Err r) a c e = cc
 
-pub load_tells_refused : (code : ℕ) (a : Counts) (n : ℕ) → load_answer code a ≡ Err n → (code ≡ n) × (code ≡ 0 → ⊥)
-unfolding load_answer pick
-load_tells_refused zero a n e = absurd (let w : ◌≡◌ {A = ℕ} 0 1 = cc in omega arith)
-load_tells_refused (suc k) a n e =
-    let t : eqb (suc k) 0 ≡ false = ne_eqb (suc k) 0 (λ z. absurd (omega arith)) in
-    let z : Err (suc k) ≡ Err n = rw t at e in
-    (cc, λ q. absurd (omega arith))
+pub load_tells_refused : (code : Code) (a : Counts) (r : Refusal) → load_answer code a ≡ Err r → code ≡ Err r
+unfolding answer_of
+load_tells_refused (Ok u) a r e = cc
+load_tells_refused (Err k) a r e = cc
 
 -- ---- what the answer says
 pub record LoadAccepts (f : List ℕ) (base : ℕ) (s s' : Storage) (c : Counts) : Type 0 where
@@ -69,22 +64,22 @@ module _ (f : List ℕ) (base : ℕ) (s s' : Storage) (c : Counts) (loads : Load
   abbrev h : Header
   h = header_of f
 
-  told : (first_failed (load_checks f h base s) ≡ 0) × (counts f h ≡ c)
+  told : (first_failed (load_checks f h base s) ≡ PASSES) × (counts f h ≡ c)
   told = tells_loaded (first_failed (load_checks f h base s)) (counts f h) c (sym loads.says)
 
   abbrev late : List Check
   late = target_checks (tally f h) ++ (check (room_ok (counts f h) s) STORAGE ∷ [])
 
-  records : first_failed (checks f h ++ (check (room_ok (counts f h) s) STORAGE ∷ [])) ≡ 0
-  records = checks_hold (base_ok base) (BASE - 1) (checks f h ++ (check (room_ok (counts f h) s) STORAGE ∷ [])) told.0
+  records : first_failed (checks f h ++ (check (room_ok (counts f h) s) STORAGE ∷ [])) ≡ PASSES
+  records = checks_hold (base_ok base) Base (checks f h ++ (check (room_ok (counts f h) s) STORAGE ∷ [])) told.0
 
   in_order : Ordered f h
   in_order = ordered f h (extern_checks (length (externs f h)) ++ late) records
 
-  rest : first_failed (extern_checks (length (externs f h)) ++ late) ≡ 0
+  rest : first_failed (extern_checks (length (externs f h)) ++ late) ≡ PASSES
   rest = ordered_rest f h (extern_checks (length (externs f h)) ++ late) records
 
-  targets : first_failed late ≡ 0
+  targets : first_failed late ≡ PASSES
   targets = checks_hold _ _ _ rest
 
   few_names : leb (length (externs f h)) MAX_EXTERNS ≡ true
@@ -94,29 +89,29 @@ module _ (f : List ℕ) (base : ℕ) (s s' : Storage) (c : Counts) (loads : Load
   last = check (room_ok (counts f h) s) STORAGE ∷ []
 
   none_refused : eqb (tally f h).refused 0 ≡ true
-  none_refused = check_holds (eqb (tally f h).refused 0) (TARGET - 1) (check (eqb (tally f h).outside 0) PLACE ∷ last) targets
+  none_refused = check_holds (eqb (tally f h).refused 0) Target (check (eqb (tally f h).outside 0) PLACE ∷ last) targets
 
-  inside : first_failed (check (eqb (tally f h).outside 0) PLACE ∷ last) ≡ 0
-  inside = checks_hold (eqb (tally f h).refused 0) (TARGET - 1) (check (eqb (tally f h).outside 0) PLACE ∷ last) targets
+  inside : first_failed (check (eqb (tally f h).outside 0) PLACE ∷ last) ≡ PASSES
+  inside = checks_hold (eqb (tally f h).refused 0) Target (check (eqb (tally f h).outside 0) PLACE ∷ last) targets
 
   none_outside : eqb (tally f h).outside 0 ≡ true
-  none_outside = check_holds (eqb (tally f h).outside 0) (PLACE - 1) last inside
+  none_outside = check_holds (eqb (tally f h).outside 0) Place last inside
 
   survey_accepts : survey_of f ≡ Ok c
-  unfolding answer_by first_failed pick
+  unfolding answer_of first_failed pick
   survey_accepts =
-      let z : first_failed (checks f h) ≡ 0 =
+      let z : first_failed (checks f h) ≡ PASSES =
       records_rest f h (extern_checks (length (externs f h)) ++ target_checks (tally f h)) in_order ∙ rw (few_names, none_refused, none_outside) in
       rw z (ap Ok told.1)
 
   -- an accepted load has passed every check, and leaves what is to be stored
   pub load_accepts : LoadAccepts f base s s' c
-  unfolding pick
+  unfolding unless_refused
   load_accepts =
       record {
         accepted = survey_accepts;
-        allowed = check_holds (base_ok base) (BASE - 1) (checks f h ++ (check (room_ok (counts f h) s) STORAGE ∷ [])) told.0;
-        room = rw (← told.1) (check_holds (room_ok (counts f h) s) (STORAGE - 1) [] (checks_hold (eqb (tally f h).outside 0) (PLACE - 1) last inside));
+        allowed = check_holds (base_ok base) Base (checks f h ++ (check (room_ok (counts f h) s) STORAGE ∷ [])) told.0;
+        room = rw (← told.1) (check_holds (room_ok (counts f h) s) Storage [] (checks_hold (eqb (tally f h).outside 0) Place last inside));
         counted = told.1;
         names = leb-true (length (externs f h)) MAX_EXTERNS few_names;
         pages = leb-true (mapped_pages f h) MAX_PAGES in_order.pages;
@@ -200,8 +195,7 @@ module _ (f : List ℕ) (base : ℕ) (s s' : Storage) (c : Counts) (loads : Load
       }
 
 -- ---- a refusal changes nothing
-pub load_refused : (f : List ℕ) (base : ℕ) (s s' : Storage) (n : ℕ) → Loads f base s s' (Err n) → s' ≡ s
-unfolding pick
-load_refused f base s s' n loads =
-    let t = load_tells_refused (first_failed (load_checks f (header_of f) base s)) (counts f (header_of f)) n (sym loads.says) in
-    rw (ne_eqb (first_failed (load_checks f (header_of f) base s)) 0 t.1) at loads.leaves
+pub load_refused : (f : List ℕ) (base : ℕ) (s s' : Storage) (r : Refusal) → Loads f base s s' (Err r) → s' ≡ s
+unfolding unless_refused
+load_refused f base s s' r loads =
+    rw (load_tells_refused (first_failed (load_checks f (header_of f) base s)) (counts f (header_of f)) r (sym loads.says)) at loads.leaves

@@ -1,15 +1,15 @@
 -- The ways through the code. Assumes nothing.
 use Rattle.refusal.specs.declared.Refusal.{Refusal}
 use Rattle.std.specs.Prelude.{Result, Ok, Err}
+use Rattle.refusal.specs.Refusal.{Code, PASSES, answer_of, unless_refused}
 use mathlib.Core.Path.{◌≡◌, refl, sym, ap, ◌∙◌}
 use mathlib.Core.Bool.{true, false}
 use mathlib.Core.List.{List, ◌++◌}
-use Prim.Native.Nat.{ℕ, zero, suc, ◌-◌}
-use native.Mathlib.Omega.{arith}
-use lib.Dec.{eqb, leb}
+use Prim.Native.Nat.{ℕ, ◌-◌}
+use lib.Dec.{leb}
 use lib.ListN.{length, replicate, length-replicate}
 use lib.Seq.{take-append_seam}
-use borrow.Author.Tests.{le-leb, ne_eqb}
+use borrow.Author.Tests.{le-leb}
 use Rattle.limits.specs.Limits.{MAX_EXTERNS, EXTERN_ROOM}
 use Rattle.util.specs.Pick.{pick}
 use Rattle.le.specs.Le.{part, part_front}
@@ -23,25 +23,15 @@ use Rattle.plan.specs.declared.Lengths.{Lengths}
 use Rattle.plan.specs.Plan.{plan_checks, Blank, Found, Plans}
 use Rattle.plan.specs.PlanLaws.{plan_says, plan_says_no}
 use Rattle.storage.specs.Storage.{Storage, stored, Known}
-use Rattle.loading.specs.Load.{lengths_of, load_checks, load_answer, LoadIs, Loads}
+use Rattle.loading.specs.Load.{lengths_of, load_checks, Loads}
 
 -- ---- the whole
-load_says_refused : (code : ℕ) (c : Counts) → (code ≡ 0 → ⊥) → Err code ≡ load_answer code c
-unfolding load_answer pick
-load_says_refused code c z = rw (ne_eqb code 0 z)
-
-refused_is : (code n : ℕ) (c : Counts) (new s : Storage) → code ≡ suc n → LoadIs code c new s s (Err (suc n))
-unfolding pick
-refused_is code n c new s e =
-    let z : eqb (suc n) 0 ≡ false = ne_eqb (suc n) 0 (λ q. absurd (omega arith)) in
-    rw e (record { says = load_says_refused (suc n) c (λ q. absurd (omega arith)); leaves = rw z })
-
 -- a plan that is ready
-module _ (f : List ℕ) (h : Header) (homes codes slots : List ℕ) (base : ℕ) (l : Lengths) (p : Result (Counts × ℕ) Refusal) (plans : Plans f h base l homes codes slots p) (c : Counts) (n : ℕ) (is : p ≡ Ready c n) where
-  abbrev ready_code : ℕ
+module _ (f : List ℕ) (h : Header) (homes codes slots : List ℕ) (base : ℕ) (l : Lengths) (p : Result (Counts × ℕ) Refusal) (plans : Plans f h base l homes codes slots p) (c : Counts) (n : ℕ) (is : p ≡ Ok (c, n)) where
+  abbrev ready_code : Code
   ready_code = first_failed (plan_checks f h base l)
 
-  told : (ready_code ≡ 0) × (c ≡ counts f h) × (n ≡ length (externs f h))
+  told : (ready_code ≡ PASSES) × (c ≡ counts f h) × (n ≡ length (externs f h))
   told = plan_says ready_code (counts f h) (length (externs f h)) c n (sym is ∙ plans.says)
 
   found : Found f h homes codes slots
@@ -69,24 +59,23 @@ module _ (f homes₀ codes₀ : List ℕ) (base : ℕ) (s : Storage) (homes code
   abbrev h : Header
   h = header_of f
 
-  abbrev code : ℕ
+  abbrev code : Code
   code = first_failed (load_checks f h base s)
 
   plans : Cleared h homes₀ codes₀ → Plans f h base (lengths_of s) homes codes slots p
   plans zeros = made (record { zeros = zeros; no_slots = refl })
 
-  no_case : (k n : ℕ) → code ≡ k → k ≡ n → (k ≡ 0 → ⊥) → Loads f base s s (Err n)
-  no_case zero n e q z = absurd (z refl)
-  no_case (suc k) n e q z = rw (← q) (refused_is code k (counts f h) (stored f h base s) s e)
+  pub load_no : (r : Refusal) → p ≡ Err r → Cleared h homes₀ codes₀ → Loads f base s s (Err r)
+  unfolding answer_of unless_refused
+  load_no r e zeros =
+      let t = plan_says_no code (counts f h) (length (externs f h)) r (sym e ∙ (plans zeros).says) in
+      record { says = rw t; leaves = rw t }
 
-  pub load_no : (n : ℕ) → p ≡ Err n → Cleared h homes₀ codes₀ → Loads f base s s (Err n)
-  load_no n e zeros =
-      let t = plan_says_no code (counts f h) (length (externs f h)) n (sym e ∙ (plans zeros).says) in
-      no_case code n refl t.0 t.1
-
-  pub load_yes : (c : Counts) (n : ℕ) (after : Storage) → p ≡ Ready c n → (Known f h homes codes (part slots 0 n) → after ≡ stored f h base s) → Cleared h homes₀ codes₀ → Loads f base s after (Ok c)
-  unfolding load_answer pick
+  pub load_yes : (c : Counts) (n : ℕ) (after : Storage) → p ≡ Ok (c, n) → (Known f h homes codes (part slots 0 n) → after ≡ stored f h base s) → Cleared h homes₀ codes₀ → Loads f base s after (Ok c)
+  unfolding answer_of unless_refused
   load_yes c n after is wrote zeros =
       let t = told f h homes codes slots base (lengths_of s) p (plans zeros) c n is in
       let e : after ≡ stored f h base s = wrote (known_is f h homes codes slots base (lengths_of s) p (plans zeros) c n is) in
       record { says = rw t.0 (ap Ok t.1); leaves = rw t.0 e }
+
+pub ruleset loads = (slots_long, load_no, load_yes)

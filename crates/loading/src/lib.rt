@@ -1,18 +1,18 @@
 // Plan and writing in one: load, with the arrays for what the sections and symbols come to lent by the caller.
 #![tactic(auto)]
 
-mod answer;
-
 ghost use Rattle.object.specs.Format.{header_of};
 ghost use Rattle.survey.specs.Surveying.{Cleared};
 ghost use Rattle.storage.specs.Storage.{storage};
 ghost use Rattle.loading.specs.Load.{Loads};
 
-pub use answer::Load;
 use arch::VA;
-use plan::{Lengths, Plan};
+use plan::Lengths;
+use refusal::Refusal;
+use survey::Counts;
 
 // Everything that survey counts, or a refusal and no byte has changed; `homes` and `codes` are the caller's, and what is written is told where they held zeros.
+#[tactic(auto, using(crate::proofs::Laws::loads))]
 pub fn load_with(
     f: &[u8],
     base: VA,
@@ -42,14 +42,9 @@ pub fn load_with(
         skips: skips.len(),
     };
     let mut slots = [0u32; limits::EXTERN_ROOM];
-    match plan::plan_file(f, base, l, homes, codes, &mut slots) {
-        Err(n) => Err(n),
-        Ok((c, n)) => {
-            storage::write_all(
-                f, base, homes, codes, &slots, n, image, marks, sections, symbols, externs, fixups,
-                skips,
-            );
-            Ok(c)
-        }
-    }
+    let (counts, names) = plan::plan_file(f, base, l, homes, codes, &mut slots)?;
+    storage::write_all(
+        f, base, homes, codes, &slots, names, image, marks, sections, symbols, externs, fixups, skips,
+    );
+    Ok(counts)
 }

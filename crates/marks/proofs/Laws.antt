@@ -1,43 +1,62 @@
 -- The ways through the code. Assumes nothing.
-use Rattle.std.proofs.Common.{◌≡◌, ℕ, zero, suc, ◌+◌, ◌-◌, ◌*◌, ◌/◌, ◌%◌, ◌^◌, ◌<◌, ◌≤◌, Bool, true, false, not, ◌&&◌, eqb, List, sym, refl, ap, ◌∙◌, ⊎_elim, mod-lt, mod-eq_of_lt, one-mul, pow-suc, add-one, one-add, arith, lit<, pow_pos, shl_exact, eq-eqb, ne_eqb, eqb-true}
+use Rattle.std.proofs.Common.{◌≡◌, ℕ, zero, suc, ◌+◌, ◌-◌, ◌*◌, ◌/◌, ◌%◌, ◌^◌, ◌<◌, ◌≤◌, Bool, true, false, ◌&&◌, eqb, List, sym, refl, ap, ◌∙◌, ⊎_elim, mod-lt, mod-eq_of_lt, pow-suc, add-one, one-add, arith, pow_pos, eq-eqb, ne_eqb, eqb-true}
 use mathlib.Core.Bool.{and-false}
 use lib.Count.{ones, ones-le}
-use lib.Pow.{pow-lt, mod-pow-add}
-use borrow.Author.Tests.{not-true, not-false}
-use Rattle.util.specs.Pick.{both_ways, and_left, and_both, yes_no, not_both, le_or_lt}
-use Rattle.util.specs.Prefix.{all_to, sum_to, all_out, all_again, all_at, all_of}
+use lib.Pow.{mod-pow-add}
+use Rattle.std.specs.List.{list_all, range_with_len}
+use Rattle.std.proofs.Math.ListN.{get_or, length, get_or-eq_default}
+use Rattle.std.specs.Prelude.{min, bit_and}
+use Rattle.std.proofs.lemmas.Nat.{and_mask}
+use Rattle.util.specs.Pick.{both_ways, and_left, and_right, and_both, yes_no, not_both, le_or_lt}
+use Rattle.util.specs.Prefix.{all_to, sum_to, all_at, all_of}
 use Rattle.le.specs.Le.{get, le, splice, splice_next}
-use Rattle.marks.specs.Marks.{WORD_PAGES, WORD_BYTES, words_for, word_at, marked, all_marked, pages_in, mark_word, mark_bytes, marks_put}
+use Rattle.marks.specs.Marks.{WORD_PAGES, WORD_BYTES, word_at, marked, all_marked, pages_in, mark_word, mark_bytes}
 use Rattle.marks.specs.MarkLaws.{pages_at, pages_of_lem}
 use Rattle.marks.specs.PutLaws.{length_marks}
+
+-- ---- a word, where its place is a number of 64 bits, and past those
+get_past : (n : ℕ) (l : List ℕ) (at : ℕ) → length l ≤ at → get n l at ≡ 0
+unfolding get
+get_past zero l at h = refl
+get_past (suc n) l at h =
+    let a : get_or l at 0 ≡ 0 = get_or-eq_default l 0 {n = at} h in
+    let r : get n l (suc at) ≡ 0 = get_past n l (suc at) (omega arith) in
+    omega arith
+
+pub word_is : (m : List ℕ) (w at r : ℕ) → length m < 2 ^ 64 → at ≡ min (w * WORD_BYTES) (2 ^ 64 - 1) → r ≡ get WORD_BYTES m at → r ≡ word_at m w
+word_is m w at r h e q =
+    ⊎_elim
+    (λ (k : WORD_BYTES * w ≤ 2 ^ 64 - 1). let z : at ≡ WORD_BYTES * w = omega arith in rw z at q)
+    (λ (k : 2 ^ 64 - 1 < WORD_BYTES * w). q ∙ get_past WORD_BYTES m at (omega arith) ∙ sym (get_past WORD_BYTES m (WORD_BYTES * w) (omega arith)))
+    (le_or_lt (WORD_BYTES * w) (2 ^ 64 - 1))
 
 -- ---- one mark
 pub marked_is : (m : List ℕ) (p w : ℕ) → w ≡ get WORD_BYTES m (WORD_BYTES * (p / WORD_PAGES)) → eqb (w / 2 ^ (p % WORD_PAGES) % 2) 1 ≡ marked m p
 unfolding marked
 marked_is m p w e = rw e
 
--- ---- those from `a` up to `b`
-pub pages_none : (m : List ℕ) (a : ℕ) → all_marked m a a ≡ true
-unfolding all_marked all_to
-pages_none m a = let z : a - a ≡ 0 = omega arith in rw z
+-- ---- each number of a range passes where each of those that `all_to` asks does
+pub all_range : (p : ℕ → Bool) (a n : ℕ) → list_all p (range_with_len a n) ≡ all_to (λ k. p (a + k)) n
+unfolding all_to
+all_range p a zero = refl
+all_range p a (suc n) =
+    let r = all_range p (a + 1) n in
+    both_ways (p a && list_all p (range_with_len (a + 1) n)) (all_to (λ k. p (a + k)) (suc n))
+    (λ e.
+    let first = and_left (p a) (list_all p (range_with_len (a + 1) n)) e in
+    let others = sym r ∙ and_right (p a) (list_all p (range_with_len (a + 1) n)) e in
+    all_of (λ k. p (a + k)) (suc n)
+    (λ i h. ⊎_elim (λ (z : i ≤ 0). let y : a + i ≡ a = omega arith in rw y first)
+    (λ (z : 0 < i). let y : a + i ≡ a + 1 + (i - 1) = omega arith in rw y (all_at (λ k. p (a + 1 + k)) n (i - 1) others (omega arith)))
+    (le_or_lt i 0)))
+    (λ e.
+    and_both (p a) (list_all p (range_with_len (a + 1) n))
+    (let y : a + 0 ≡ a = omega arith in rw y at (all_at (λ k. p (a + k)) (suc n) 0 e (omega arith)))
+    (r ∙ all_of (λ k. p (a + 1 + k)) n (λ i h. let y : a + 1 + i ≡ a + suc i = omega arith in rw y (all_at (λ k. p (a + k)) (suc n) (suc i) e (omega arith)))))
 
-module _ (m : List ℕ) (a p : ℕ) (r : Bool) (is : r ≡ marked m p) where
-  there : a ≤ p → r ≡ marked m (a + (p - a))
-  there h = let z : a + (p - a) ≡ p = omega arith in rw z is
-
-  pub pages_out : (b : ℕ) → not r ≡ true → a ≤ p → p < b → false ≡ all_marked m a b
-  unfolding all_marked
-  pages_out b t h l = all_out (λ k. marked m (a + k)) (p - a) (b - a) (b - a) r (omega arith) refl (there h) t
-
-  pub pages_again : not r ≡ false → a ≤ p → all_marked m a p ≡ true → all_marked m a (p + 1) ≡ true
-  unfolding all_marked
-  pages_again t h e = let z : p + 1 - a ≡ p - a + 1 = omega arith in rw z (all_again (λ k. marked m (a + k)) (p - a) r e (there h) t)
-
-pub pages_end : (m : List ℕ) (a p b : ℕ) → all_marked m a p ≡ true → b ≤ p → true ≡ all_marked m a b
+pub pages_all : (m : List ℕ) (a b : ℕ) → list_all (marked m) (range_with_len a (b - a)) ≡ all_marked m a b
 unfolding all_marked
-pages_end m a p b e h = sym (all_of (λ k. marked m (a + k)) (b - a) (λ i l. all_at (λ k. marked m (a + k)) (p - a) i e (omega arith)))
-
-pub ruleset pages_loop = (pages_none, pages_out, pages_again, pages_end)
+pages_all m a b = all_range (marked m) a (b - a)
 
 -- ---- a word at a time: its lowest c pages are marked where they are all ones
 full_step : (b r p : ℕ) → b < 2 → r < p → eqb r (p - 1) && eqb b 1 ≡ eqb (b * p + r) (p * 2 - 1)
@@ -75,14 +94,8 @@ module _ (m : List ℕ) (w : ℕ) where
       (λ k l. word_bit k (omega arith) ∙ all_at (λ j. eqb (word_at m w / 2 ^ j % 2) 1) c k e l)))
 
   pub low_marked : (c word low : ℕ) → c < WORD_PAGES → word ≡ get WORD_BYTES m (WORD_BYTES * w) → low ≡ 2 ^ c - 1
-      → eqb (word % (low + 1)) low ≡ all_marked m (WORD_PAGES * w) (WORD_PAGES * w + c)
-  low_marked c word low h e q =
-      let p = pow_pos c in
-      let z : low + 1 ≡ 2 ^ c = omega arith in
-      rw (z, e, q) (sym (low_bits c (omega arith) ∙ bits_full (word_at m w) c))
-
-  pub low_fits : (c low : ℕ) → c < WORD_PAGES → low ≡ 2 ^ c - 1 → low + 1 < 2 ^ 64
-  low_fits c low h q = let l : 2 ^ c < 2 ^ 64 = pow-lt {i = c} {j = WORD_PAGES} h in let p = pow_pos c in omega arith
+      → eqb (bit_and word low) low ≡ all_marked m (WORD_PAGES * w) (WORD_PAGES * w + c)
+  low_marked c word low h e q = rw (e, q, and_mask (word_at m w) c) (sym (low_bits c (omega arith) ∙ bits_full (word_at m w) c))
 
   pub word_marked : (word : ℕ) → word < 2 ^ 64 → word ≡ get WORD_BYTES m (WORD_BYTES * w)
       → eqb word (2 ^ 64 - 1) ≡ all_marked m (WORD_PAGES * w) (WORD_PAGES * w + WORD_PAGES)
@@ -99,30 +112,39 @@ module _ (m : List ℕ) (a b : ℕ) where
       (λ p z l. ⊎_elim (λ k. pages_at m a b p e k l) (λ k. pages_at m 0 a p t z k) (le_or_lt a p)))
       (λ e. pages_of_lem m a b (λ p z l. pages_at m 0 b p e (omega arith) l))
 
-module _ (m : List ℕ) (w : ℕ) (r : Bool) where
-  pub words_out : (pages : ℕ) → r ≡ all_marked m (WORD_PAGES * w) (WORD_PAGES * w + WORD_PAGES) → not r ≡ true → w < pages / WORD_PAGES → false ≡ all_marked m 0 pages
-  words_out pages e t h =
+-- whether each page of word w is marked
+abbrev pub whole : List ℕ → ℕ → Bool
+whole m w = all_marked m (WORD_PAGES * w) (WORD_PAGES * w + WORD_PAGES)
+
+pub words_all : (m : List ℕ) (n : ℕ) → list_all (whole m) (range_with_len 0 n) ≡ all_marked m 0 (WORD_PAGES * n)
+words_all m n =
+    all_range (whole m) 0 n
+    ∙ both_ways (all_to (λ k. whole m (0 + k)) n) (all_marked m 0 (WORD_PAGES * n))
+    (λ e. pages_of_lem m 0 (WORD_PAGES * n)
+    (λ p z l.
+    let y : 0 + p / WORD_PAGES ≡ p / WORD_PAGES = omega arith in
+    let t : whole m (p / WORD_PAGES) ≡ true = rw y at (all_at (λ k. whole m (0 + k)) n (p / WORD_PAGES) e (omega arith)) in
+    pages_at m (WORD_PAGES * (p / WORD_PAGES)) (WORD_PAGES * (p / WORD_PAGES) + WORD_PAGES) p t (omega arith) (omega arith)))
+    (λ e. all_of (λ k. whole m (0 + k)) n
+    (λ w h.
+    let y : 0 + w ≡ w = omega arith in
+    rw y (pages_of_lem m (WORD_PAGES * w) (WORD_PAGES * w + WORD_PAGES) (λ p k l. pages_at m 0 (WORD_PAGES * n) p e (omega arith) (omega arith)))))
+
+module _ (m : List ℕ) (pages : ℕ) (words : Bool) (is : words ≡ all_marked m 0 (WORD_PAGES * (pages / WORD_PAGES))) where
+  pub first_yes : words ≡ true → (r : Bool) → r ≡ all_marked m (WORD_PAGES * (pages / WORD_PAGES)) (WORD_PAGES * (pages / WORD_PAGES) + pages % WORD_PAGES)
+      → r ≡ all_marked m 0 pages
+  first_yes t r e =
+      let y : WORD_PAGES * (pages / WORD_PAGES) + pages % WORD_PAGES ≡ pages = omega arith in
+      e ∙ rw y (join m (WORD_PAGES * (pages / WORD_PAGES)) pages (sym is ∙ t) (omega arith))
+
+  pub first_no : words ≡ false → words ≡ all_marked m 0 pages
+  first_no t =
       ⊎_elim
-      (λ z.
-      let y : all_marked m (WORD_PAGES * w) (WORD_PAGES * w + WORD_PAGES) ≡ true =
-      pages_of_lem m (WORD_PAGES * w) (WORD_PAGES * w + WORD_PAGES) (λ p k l. pages_at m 0 pages p z (omega arith) (omega arith)) in
-      not_both r (e ∙ y) (not-true r t))
-      (λ z. sym z) (yes_no (all_marked m 0 pages))
+      (λ z. not_both words (is ∙ pages_of_lem m 0 (WORD_PAGES * (pages / WORD_PAGES)) (λ p k l. pages_at m 0 pages p z (omega arith) (omega arith))) t)
+      (λ z. t ∙ sym z)
+      (yes_no (all_marked m 0 pages))
 
-  pub words_again : all_marked m 0 (WORD_PAGES * w) ≡ true → r ≡ all_marked m (WORD_PAGES * w) (WORD_PAGES * w + WORD_PAGES) → not r ≡ false
-      → all_marked m 0 (WORD_PAGES * (w + 1)) ≡ true
-  words_again a e t =
-      let z : WORD_PAGES * (w + 1) ≡ WORD_PAGES * w + WORD_PAGES = omega arith in
-      rw z (sym (e ∙ join m (WORD_PAGES * w) (WORD_PAGES * w + WORD_PAGES) a (omega arith)) ∙ not-false r t)
-
-  pub words_end : (n pages : ℕ) → all_marked m 0 (WORD_PAGES * w) ≡ true → w ≤ n → n ≤ w → n ≡ pages / WORD_PAGES
-      → r ≡ all_marked m (WORD_PAGES * n) (WORD_PAGES * n + pages % WORD_PAGES) → r ≡ all_marked m 0 pages
-  words_end n pages a h k q e =
-      let z : n ≡ w = omega arith in
-      let y : WORD_PAGES * n + pages % WORD_PAGES ≡ pages = omega arith in
-      e ∙ rw y (join m (WORD_PAGES * n) pages (rw z a) (omega arith))
-
-pub ruleset words_loop = (pages_none, words_out, words_again, words_end)
+pub ruleset first_ways = (first_yes, first_no)
 
 -- ---- a sum modulo 2 ^ 64, as the count's loop has it
 module _ (f : ℕ → ℕ) where
@@ -134,8 +156,8 @@ module _ (f : ℕ → ℕ) where
   unfolding sum_to
   wrap_again i s n r p d q = rw (q, add-one, p, d) (omega arith)
 
-  pub wrap_end : (i n m s : ℕ) → s ≡ sum_to f i % 2 ^ 64 → i ≤ n → n ≤ i → n ≡ m → s ≡ sum_to f m % 2 ^ 64
-  wrap_end i n m s p h k q = let z : i ≡ m = omega arith in rw (← z) p
+  pub wrap_end : (i n s : ℕ) → s ≡ sum_to f i % 2 ^ 64 → i ≤ n → n ≤ i → s ≡ sum_to f n % 2 ^ 64
+  wrap_end i n s p h k = let z : i ≡ n = omega arith in rw (← z) p
 
 pub ones_fit : (w : ℕ) → w < 2 ^ 64 → ones w < 2 ^ 64
 ones_fit w h = let k : ones w ≤ 64 = ones-le 64 w h in omega arith
@@ -146,35 +168,16 @@ ones_are m w word e = rw e
 pub ruleset count_loop = (wrap_none, wrap_again, wrap_end, ones_fit, ones_are)
 
 -- ---- a word of the first pages' marks
-shifted : (n : ℕ) → n < WORD_PAGES → 1 * 2 ^ n % 2 ^ 64 ≡ 2 ^ n
-shifted n h = shl_exact {a = 1} 1 n 64 (lit< tt) (omega arith) ∙ one-mul _
-
-module _ (n : ℕ) where
-  pub ones_none : n < WORD_PAGES → 1 * 2 ^ n % 2 ^ 64 ≡ 0 → 0 ≡ 2 ^ n - 1
-  ones_none h e = let z = shifted n h in omega arith
-
-  pub ones_some : n < WORD_PAGES → (1 * 2 ^ n % 2 ^ 64 ≡ 0 → ⊥) → 1 * 2 ^ n % 2 ^ 64 - 1 ≡ 2 ^ n - 1
-  ones_some h e = let z = shifted n h in omega arith
-
-pub ruleset ones_ways = (ones_none, ones_some)
-
-module _ (pages w : ℕ) where
-  pub word_none : pages ≤ WORD_PAGES * w → 0 ≡ mark_word pages w
+module _ (pages w p q left : ℕ) (all : p ≡ pages) (word : q ≡ w) (rest : left ≡ p - WORD_PAGES * q) where
+  pub word_full : WORD_PAGES ≤ left → 2 ^ 64 - 1 ≡ mark_word pages w
   unfolding mark_word
-  word_none h = let z : pages_in pages w ≡ 0 = omega arith in rw z
+  word_full h = let z : pages_in pages w ≡ WORD_PAGES = omega arith in rw z
 
-  pub word_full : WORD_PAGES * w < pages → WORD_PAGES ≤ pages - WORD_PAGES * w → 2 ^ 64 - 1 ≡ mark_word pages w
+  pub word_part : (r : ℕ) → left < WORD_PAGES → r ≡ 2 ^ left - 1 → r ≡ mark_word pages w
   unfolding mark_word
-  word_full h k = let z : pages_in pages w ≡ WORD_PAGES = omega arith in rw z
+  word_part r h e = let z : pages_in pages w ≡ left = omega arith in rw z e
 
-  pub word_part : (r : ℕ) → WORD_PAGES * w < pages → pages - WORD_PAGES * w < WORD_PAGES → r ≡ 2 ^ (pages - WORD_PAGES * w) - 1 → r ≡ mark_word pages w
-  unfolding mark_word
-  word_part r h k q = let z : pages_in pages w ≡ pages - WORD_PAGES * w = omega arith in rw z q
-
-pub ruleset mark_ways = (word_none, word_full, word_part)
-
-pub mark_by : (l : List ℕ) (at v u : ℕ) {r : List ℕ} → r ≡ splice l at (le WORD_BYTES v) → v ≡ u → r ≡ splice l at (le WORD_BYTES u)
-mark_by l at v u p q = rw (← q) p
+pub ruleset mark_ways = (word_full, word_part)
 
 -- ---- word after word
 module _ (pages : ℕ) where
@@ -182,11 +185,9 @@ module _ (pages : ℕ) where
   unfolding splice mark_bytes
   marks_none l = refl
 
-  pub marks_again : (l b c : List ℕ) (w : ℕ) → b ≡ splice l 0 (mark_bytes pages w) → c ≡ splice b (WORD_BYTES * w) (le WORD_BYTES (mark_word pages w)) → c ≡ splice l 0 (mark_bytes pages (w + 1))
+  pub marks_again : (l b c : List ℕ) (w q v : ℕ) → b ≡ splice l 0 (mark_bytes pages w) → q ≡ w → v ≡ mark_word pages w → c ≡ splice b (WORD_BYTES * q) (le WORD_BYTES v)
+      → c ≡ splice l 0 (mark_bytes pages (w + 1))
   unfolding mark_bytes
-  marks_again l b c w e d = rw (d, e, splice_next l 0 (mark_bytes pages w) (le WORD_BYTES (mark_word pages w)) (WORD_BYTES * w) (let z = length_marks pages w in omega arith), add-one w)
+  marks_again l b c w q v e f g d = rw (d, e, f, g, splice_next l 0 (mark_bytes pages w) (le WORD_BYTES (mark_word pages w)) (WORD_BYTES * w) (let z = length_marks pages w in omega arith), add-one w)
 
-  pub marks_end : (l b : List ℕ) (w n : ℕ) → b ≡ splice l 0 (mark_bytes pages w) → w ≤ n → n ≤ w → n ≡ words_for pages → b ≡ marks_put pages l
-  marks_end l b w n e a c q = let z : w ≡ words_for pages = omega arith in rw (← z) e
-
-pub ruleset marks_loop = (marks_none, marks_again, marks_end)
+pub ruleset marks_loop = (marks_none, marks_again)

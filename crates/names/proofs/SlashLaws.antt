@@ -1,5 +1,4 @@
 -- Laws of sections' names that rest on what a slash's digits come to, and so cannot stand beside that definition: an edit of it must stay readable there.
-use Rattle.names.specs.declared.Name.{Name}
 use Rattle.std.specs.Prelude.{◌≡◌, refl, Bool, ◌&&◌, List, ℕ, eqb, get_or, None, Option, Some, Err}
 use Rattle.std.proofs.Common.{sym, ap, ◌∙◌}
 use Rattle.refusal.specs.declared.Refusal.{Refusal}

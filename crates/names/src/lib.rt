@@ -11,16 +11,15 @@ pub use place::{
 pub use spelling::{compare, is_undef, same};
 
 // Where a good name starts in the file, and how many bytes it has.
-#[derive(Clone, Copy)]
+#[derive(Clone, Copy, PartialEq, Eq)]
 pub struct Name {
     pub at: usize,
     pub length: usize,
 }
 
 // Where a symbol's name stands: its first byte, and the most bytes that it may take.
-#[derive(Clone, Copy)]
+#[derive(Clone, Copy, PartialEq, Eq)]
 pub struct Span {
     pub at: usize,
     pub most: usize,
 }
-

@@ -9,7 +9,6 @@ ghost use Rattle.names.specs.Name.{
   slash_offset,
   slash_run,
   section_run,
-  checked,
   section_name,
   symbol_name,
   name_bytes,
@@ -130,8 +129,9 @@ fn section_run(f: &[u8], h: Header, at: usize) -> Option<Name>
 pub fn section_name(f: &[u8], h: Header, i: u32) -> Option<Name>
     ensures { result ≡ section_name f.now h i }
 {
-    section_run(f, h, object::section_header_at(h, i))
-        .filter(|n| chars::good_section_name(le::part(f, n.at, n.length)))
+    section_run(f, h, object::section_header_at(h, i)).filter(|n| chars::good_section_name(le::part(
+        f, n.at, n.length,
+    )))
 }
 
 // The name of symbol j.
@@ -139,8 +139,9 @@ pub fn section_name(f: &[u8], h: Header, i: u32) -> Option<Name>
 pub fn symbol_name(f: &[u8], h: Header, j: u32) -> Option<Name>
     ensures { result ≡ symbol_name f.now h j }
 {
-    symbol_run(f, h, object::symbol_record_at(h, j))
-        .filter(|n| chars::good_symbol_name(le::part(f, n.at, n.length)))
+    symbol_run(f, h, object::symbol_record_at(h, j)).filter(|n| chars::good_symbol_name(le::part(
+        f, n.at, n.length,
+    )))
 }
 
 // Where a name starts in the file.

@@ -3,7 +3,7 @@ use Rattle.std.specs.Prelude.{Bool, ◌&&◌, ◌||◌, not, List, ℕ, zero, su
 use Rattle.std.specs.Int.{w16}
 use Rattle.std.proofs.Common.{to_z}
 use Rattle.util.specs.Pick.{pick}
-use Rattle.util.specs.Prefix.{all_to, list_to}
+use Rattle.util.specs.Prefix.{all_to}
 use Rattle.le.specs.Le.{get}
 use Rattle.kinds.specs.declared.SymbolKind.{SymbolKind}
 use Rattle.kinds.specs.declared.Place.{Place}

@@ -1,12 +1,12 @@
 -- Symbols' own records and the runs of auxiliary records behind them share out the numbers: each number is one or the other, and no two
 -- runs meet (01, "Records").
-use Rattle.std.specs.Prelude.{◌≡◌, Bool, true, false, List, eqb, get_or}
+use Rattle.std.specs.Prelude.{◌≡◌, Bool, true, false, List, eqb}
 use Rattle.std.proofs.Math.Path.{refl}
 use Rattle.std.proofs.Math.Logic.{⊎_elim}
 use Prim.Native.Nat.{ℕ, zero, suc, ◌+◌, ◌-◌, ◌≤◌, ◌<◌}
 use native.Mathlib.Omega.{arith}
 use Rattle.std.proofs.Common.{add-one}
-use borrow.Author.Tests.{eq-eqb, ne_eqb, eqb-true, eqb-false, lt-ltb, le-ltb}
+use borrow.Author.Tests.{eq-eqb, ne_eqb, eqb-true, eqb-false}
 use Rattle.util.specs.Pick.{pick, yes_no, le_or_lt}
 use Rattle.object.specs.declared.Header.{Header}
 use Rattle.object.specs.declared.Symbol.{Symbol}

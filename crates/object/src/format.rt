@@ -1,6 +1,7 @@
 // The file header.
-ghost use Rattle.std.specs.Prelude.{◌≡◌, ◌+◌, ◌*◌, ◌^◌, ◌≤◌, ◌<◌};
-ghost use Rattle.le.specs.Le.{get};
+ghost use Rattle.std.specs.Prelude.{◌≡◌, ◌+◌, ◌^◌, ◌<◌};
+ghost use Rattle.std.specs.Fn.{FnOnceReturnsAt};
+ghost use Rattle.le.specs.Le.{part};
 ghost use Rattle.object.specs.Format.{SECTION_SIZE, header_of, section_header_at, symbol_record_at, string_table, string_length};
 
 use crate::Header;
@@ -36,17 +37,17 @@ pub(crate) const SYMBOLS_AT: usize = 12;
 pub(crate) const OPTIONAL_SIZE_AT: usize = 16;
 
 // of a section record,
-pub(crate) const ADDRESS_AT: u8 = 12;
+pub(crate) const ADDRESS_AT: usize = 12;
 
-pub(crate) const RAW_SIZE_AT: u8 = 16;
+pub(crate) const RAW_SIZE_AT: usize = 16;
 
-pub(crate) const RAW_POINTER_AT: u8 = 20;
+pub(crate) const RAW_POINTER_AT: usize = 20;
 
-pub(crate) const RELOCATION_POINTER_AT: u8 = 24;
+pub(crate) const RELOCATION_POINTER_AT: usize = 24;
 
-pub(crate) const RELOCATIONS_AT: u8 = 32;
+pub(crate) const RELOCATIONS_AT: usize = 32;
 
-pub(crate) const FLAGS_AT: u8 = 36;
+pub(crate) const FLAGS_AT: usize = 36;
 
 // of a symbol record,
 pub(crate) const VALUE_AT: usize = 8;
@@ -65,50 +66,43 @@ pub(crate) const RELOCATION_SYMBOL_AT: usize = 4;
 pub(crate) const RELOCATION_TYPE_AT: usize = 8;
 
 // The file header.
+#[tactic(auto, unfolding(crate::specs::Format::header_of))]
 pub fn read_header(f: &[u8]) -> Header
     ensures { result ≡ header_of f.now }
 {
     Header {
         machine: le::u16_at(f, MACHINE_AT),
         sections: le::u16_at(f, SECTIONS_AT),
-        section_table: HEADER_SIZE + le::u16_at(f, OPTIONAL_SIZE_AT) as u32,
+        section_table: HEADER_SIZE + u32::from(le::u16_at(f, OPTIONAL_SIZE_AT)),
         symbol_table: le::u32_at(f, SYMBOL_POINTER_AT),
         symbols: symbol_count(f),
     }
 }
 
 // No symbols where the pointer is zero, whatever the count says.
+#[tactic(auto, unfolding(crate::specs::Format::header_of, util::specs::Pick::pick))]
 fn symbol_count(f: &[u8]) -> u32
     ensures { result ≡ (header_of f.now).symbols }
 {
-    let none = le::u32_at(f, SYMBOL_POINTER_AT) == 0;
-    if none { 0 } else { le::u32_at(f, SYMBOLS_AT) }
-}
-
-// The number at `k` of section record i, of 32 and of 16 bits. Where the file has all of the record, its part needs no further test.
-pub(crate) fn section_u32(f: &[u8], h: Header, i: u32, k: u8) -> u32
-    requires { k + 4 ≤ SECTION_SIZE }
-    ensures { result ≡ get 4 f.now (section_header_at h i + k) }
-{
-    let at = section_header_at(h, i);
-    let to = at + SECTION_SIZE;
-    if to <= f.len() {
-        le::u32_at(&f[at..to], k as usize)
+    if le::u32_at(f, SYMBOL_POINTER_AT) == 0 {
+        0
     } else {
-        le::u32_at(f, at + k as usize)
+        le::u32_at(f, SYMBOLS_AT)
     }
 }
 
-pub(crate) fn section_u16(f: &[u8], h: Header, i: u32, k: u8) -> u16
-    requires { k + 2 ≤ SECTION_SIZE }
-    ensures { result ≡ get 2 f.now (section_header_at h i + k) }
+// What `read` says of the n bytes of the record at a place, as far as the file has them. It is called apart where the file has all: of a part of a known length no field needs a test.
+#[tactic(auto, using(crate::proofs::Laws::whole_part))]
+pub(crate) fn read_record<T, F: FnOnce(&[u8]) -> T>(f: &[u8], at: usize, n: usize, read: F) -> T
+    requires room { at + n < 2 ^ 64 }
+    requires reads { F.IsAlwaysCallable read }
+    ensures { FnOnceReturnsAt F.FnOnce read (part f.now at n) result }
 {
-    let at = section_header_at(h, i);
-    let to = at + SECTION_SIZE;
+    let to = at + n;
     if to <= f.len() {
-        le::u16_at(&f[at..to], k as usize)
+        read(&f[at..to])
     } else {
-        le::u16_at(f, at + k as usize)
+        read(le::part(f, at, n))
     }
 }
 
@@ -137,11 +131,11 @@ pub fn string_table(h: Header) -> usize
 }
 
 // The string table's length, itself included; 0 where there are no symbols.
+#[tactic(auto, unfolding(crate::specs::Format::string_length, util::specs::Pick::pick))]
 pub fn string_length(f: &[u8], h: Header) -> u32
     ensures { result ≡ string_length f.now h }
 {
-    let none = h.symbol_table == 0;
-    if none {
+    if h.symbol_table == 0 {
         0
     } else {
         le::u32_at(f, string_table(h))

@@ -5,7 +5,8 @@ ghost use Rattle.object.specs.Format.{auxiliaries};
 ghost use Rattle.object.specs.Symbol.{symbol_in, symbol_of, kind_of, place_of, listed_of, kind, symbol_place, listed_value, left_after, auxiliaries_left};
 
 use crate::format::{
-    AUXILIARIES_AT, CLASS_AT, NUMBER_AT, SYMBOL_SIZE, TYPE_AT, VALUE_AT, symbol_record_at,
+    AUXILIARIES_AT, CLASS_AT, NUMBER_AT, SYMBOL_SIZE, TYPE_AT, VALUE_AT, read_record,
+    symbol_record_at,
 };
 use crate::{Header, Symbol};
 use kinds::{Place, SymbolKind};
@@ -30,17 +31,12 @@ fn fields_of(bytes: &[u8]) -> Symbol
     }
 }
 
-// All of record j behind its name, at once. Where the file has all of it, no field of a part of a known length needs a test.
+// All of record j behind its name, at once.
+#[tactic(auto, using(crate::proofs::Laws::symbol_part))]
 pub fn read_symbol(f: &[u8], h: Header, j: u32) -> Symbol
     ensures { result ≡ symbol_of f.now h j }
 {
-    let at = symbol_record_at(h, j);
-    let to = at + SYMBOL_SIZE;
-    if to <= f.len() {
-        fields_of(&f[at..to])
-    } else {
-        fields_of(le::part(f, at, SYMBOL_SIZE))
-    }
+    read_record(f, symbol_record_at(h, j), SYMBOL_SIZE, fields_of)
 }
 
 // What a symbol is, by its record.
@@ -86,6 +82,7 @@ pub fn listed_value(f: &[u8], h: Header, j: u32) -> u32
 }
 
 // How many auxiliary records stand behind a record, if `left` do from it on and it says that it has so many.
+#[tactic(auto, unfolding(util::specs::Pick::pick))]
 pub fn left_by(left: u8, auxiliaries: u8) -> u8
     ensures { result ≡ pick (eqb left 0) auxiliaries (left - 1) }
 {
@@ -93,6 +90,7 @@ pub fn left_by(left: u8, auxiliaries: u8) -> u8
 }
 
 // How many auxiliary records stand behind record j, if `left` do from j on.
+#[tactic(auto, unfolding(crate::specs::Symbol::left_after, util::specs::Pick::pick))]
 pub fn left_after(f: &[u8], h: Header, j: u32, left: u8) -> u8
     ensures { result ≡ left_after f.now h j left }
 {
@@ -104,15 +102,13 @@ pub fn left_after(f: &[u8], h: Header, j: u32, left: u8) -> u8
 }
 
 // How many auxiliary records lie past the table: 0 where every symbol's are in it.
+#[tactic(auto, using(crate::specs::SymbolLaws::left_none, crate::specs::SymbolLaws::left_again))]
 pub fn auxiliaries_past(f: &[u8], h: Header) -> u8
     ensures { result ≡ auxiliaries_left f.now h h.symbols }
 {
-    let n = h.symbols;
-    let mut left: u8 = 0;
-    let mut j: u32 = 0;
-    while j < n {
+    let mut left = 0;
+    for j in 0..h.symbols {
         left = left_after(f, h, j, left);
-        j += 1;
     }
     left
 }

@@ -1,5 +1,5 @@
 -- Eight bytes at a time, the ways through a comparison, and the key's loop. Assumes nothing.
-use Rattle.std.proofs.Common.{Ordering, Less, Equal, Greater}
+use Rattle.std.proofs.Common.{Ordering, Less, Equal, Greater, nat_cmp}
 use mathlib.Core.Path.{◌≡◌, refl, sym, ap, ◌∙◌}
 use mathlib.Core.Bool.{Bool, true, false}
 use mathlib.Core.List.{List, [], ◌∷◌}
@@ -8,14 +8,14 @@ use Prim.Native.Nat.{ℕ, zero, suc, ◌+◌, ◌-◌, ◌*◌, ◌/◌, ◌%◌
 use native.Mathlib.Nat.{add-mul, mul_assoc, pow-succ', pow-le-pow_right}
 use native.Mathlib.Numerals.{add-one}
 use native.Mathlib.Omega.{arith}
-use borrow.Author.Tests.{lt-ltb, le-ltb, eq-eqb, ne_eqb, eqb-true}
+use borrow.Author.Tests.{lt-ltb, le-ltb, eq-eqb, ne_eqb, eqb-true, eqb-false}
 use mir.Val.{Fits}
 use mir.Syntax.{w8}
 use lib.Bits.{bit_and, and_shr, and_mod, and_mask}
 use lib.Dec.{eqb}
 use lib.Seq.{get_or-take}
 use lib.ListN.{length, get_or, take, drop, length-take, get_or-eq_default}
-use Rattle.util.specs.Pick.{pick, yes_no, le_or_lt, not_both}
+use Rattle.util.specs.Pick.{pick, yes_no, le_or_lt, three_ways, not_both}
 use Rattle.le.specs.Le.{get, get_same, part, IsBytes}
 use Rattle.names.specs.declared.Span.{Span}
 use Rattle.names.specs.Bytes.{up_to_zero, compare_bytes}
@@ -201,28 +201,41 @@ pub ruleset ahead_loop = (count_first, count_second, ahead_none, ahead_more)
 
 -- ---- and byte by byte
 module _ (a b : List ℕ) (i y : ℕ) (k : Ahead a b i) (is : y ≡ get_or b i 0) where
-  pub text_less : get_or a i 0 < y → Less ≡ compare_bytes (up_to_zero a) (up_to_zero b)
+  text_less : get_or a i 0 < y → Less ≡ compare_bytes (up_to_zero a) (up_to_zero b)
   text_less h = sym (next a b i ∙ next_less _ _ _ _ (rw is at h)) ∙ k.on
 
-  pub text_greater : y < get_or a i 0 → Greater ≡ compare_bytes (up_to_zero a) (up_to_zero b)
+  text_greater : y < get_or a i 0 → Greater ≡ compare_bytes (up_to_zero a) (up_to_zero b)
   text_greater h = sym (next a b i ∙ next_greater _ _ _ _ (rw is at h)) ∙ k.on
 
-  pub text_equal : y ≤ get_or a i 0 → get_or a i 0 ≡ 0 → Equal ≡ compare_bytes (up_to_zero a) (up_to_zero b)
+  pub text_equal : get_or a i 0 ≡ y → get_or a i 0 ≡ 0 → Equal ≡ compare_bytes (up_to_zero a) (up_to_zero b)
   text_equal h e = let z : get_or b i 0 ≡ 0 = omega arith in sym (next a b i ∙ next_end _ _ _ _ e z) ∙ k.on
 
-  pub text_more : y ≤ get_or a i 0 → get_or a i 0 ≤ y → (get_or a i 0 ≡ 0 → ⊥) → Ahead a b (i + 1)
-  text_more h j n =
+  pub text_apart : (r : Ordering) → r ≡ nat_cmp (get_or a i 0) y → (get_or a i 0 ≡ y → ⊥) → r ≡ compare_bytes (up_to_zero a) (up_to_zero b)
+  text_apart r e n =
+      ⊎_elim (λ h. rw (e, lt-ltb (get_or a i 0) y h) (text_less h))
+      (λ h.
+      ⊎_elim (λ q. absurd (n q))
+      (λ g. rw (e, le-ltb (get_or a i 0) y (omega arith), ne_eqb (get_or a i 0) y n) (text_greater g))
+      h)
+      (three_ways (get_or a i 0) y)
+
+  pub text_more : get_or a i 0 ≡ y → (get_or a i 0 ≡ 0 → ⊥) → Ahead a b (i + 1)
+  text_more h n =
       let same : get_or a i 0 ≡ get_or b i 0 = omega arith in
       let some : 0 < get_or a i 0 = omega arith in
       rw add-one (record { on = left_same a b i same some ∙ k.on })
 
-  pub text_short : length a ≤ i → 0 < y → Less ≡ compare_bytes (up_to_zero a) (up_to_zero b)
-  text_short h j = let z : get_or a i 0 ≡ 0 = get_or-eq_default a 0 {n = i} h in text_less (omega arith)
+-- where the first text is at its end, the second goes on or is at its end too
+pub text_end : (a b : List ℕ) (i y : ℕ) (r : Ordering) → Ahead a b i → y ≡ get_or b (length a) 0 → r ≡ nat_cmp 0 y → length a ≤ i → i ≤ length a → r ≡ compare_bytes (up_to_zero a) (up_to_zero b)
+text_end a b i y r k is e h j =
+    let n : length a ≡ i = omega arith in
+    let q : y ≡ get_or b i 0 = rw n at is in
+    let z : get_or a i 0 ≡ 0 = get_or-eq_default a 0 {n = i} h in
+    ⊎_elim (λ o. let y0 : y ≡ 0 = eqb-true y 0 o in rw (e, y0) (text_equal a b i y k q (z ∙ sym y0) z))
+    (λ o. text_apart a b i y k q r (rw z e) (λ d. eqb-false y 0 o (sym d ∙ z)))
+    (yes_no (eqb y 0))
 
-  pub text_end : length a ≤ i → y ≤ 0 → Equal ≡ compare_bytes (up_to_zero a) (up_to_zero b)
-  text_end h j = let z : get_or a i 0 ≡ 0 = get_or-eq_default a 0 {n = i} h in text_equal (omega arith) z
-
-pub ruleset text_loop = (text_less, text_greater, text_equal, text_more, text_short, text_end)
+pub ruleset text_loop = (text_equal, text_apart, text_more, text_end)
 
 -- ---- of spans
 module _ (f : List ℕ) (a b : Span) where

@@ -19,86 +19,69 @@ use refusal::Refusal;
 use refusals::{capacity_code, padded_write_code, page_write_code};
 
 // One byte at the given offset, which must be mapped: what the Rust does through `get_mut`.
+#[tactic(auto, using(crate::proofs::Laws::read_byte, refusal::specs::Refusal::answers))]
 pub fn set(image: &mut [u8], marks: &[u8], rva: RVA, v: u8) -> Result<(), Refusal>
     ensures { Leaves (read_code (length image.old) marks.now rva.0 1)
         image.old (List·set image.old rva.0 v) image.new result }
 {
-    let code = pagemap::read_code(image.len() as u64, marks, rva, 1);
-    if code == 0 {
-        let at = rva.0 as usize;
-        image[at] = v;
-        Ok(())
-    } else {
-        Err(code)
-    }
+    pagemap::read_code(image.len() as u64, marks, rva, 1)?;
+    image[rva.0 as usize] = v;
+    Ok(())
 }
 
 // Maps the given items, whole pages of them, at the given offset.
+#[tactic(auto, using(refusal::specs::Refusal::answers))]
 pub fn write(image: &mut [u8], marks: &mut [u8], rva: RVA, items: &[u8]) -> Result<(), Refusal>
     ensures { LeavesBoth (page_write_code (length image.old) (length marks.old) rva.0 (length items.now))
         image.old (splice image.old rva.0 items.now) image.new
         marks.old (mark_pages marks.old (page_of rva.0) (whole_pages (length items.now))) marks.new result }
 {
     let n = items.len() as u64;
-    let code = page_write_code(image.len() as u64, marks.len() as u64, rva, n);
-    if code == 0 {
-        le::copy(image, rva.0 as usize, items);
-        mark_pages(marks, rva.0 / PAGE_SIZE, n / PAGE_SIZE);
-        Ok(())
-    } else {
-        Err(code)
-    }
+    page_write_code(image.len() as u64, marks.len() as u64, rva, n)?;
+    le::copy(image, rva.0 as usize, items);
+    mark_pages(marks, rva.page(), n / PAGE_SIZE);
+    Ok(())
 }
 
 // Maps pages of zeros, `size` bytes of them, at the given offset.
+#[tactic(auto, using(refusal::specs::Refusal::answers))]
 pub fn map_empty(image: &mut [u8], marks: &mut [u8], rva: RVA, size: u64) -> Result<(), Refusal>
     ensures { LeavesBoth (page_write_code (length image.old) (length marks.old) rva.0 size)
         image.old (splice image.old rva.0 (replicate size 0)) image.new
         marks.old (mark_pages marks.old (page_of rva.0) (whole_pages size)) marks.new result }
 {
-    let code = page_write_code(image.len() as u64, marks.len() as u64, rva, size);
-    if code == 0 {
-        le::zero(image, rva.0 as usize, size as usize);
-        mark_pages(marks, rva.0 / PAGE_SIZE, size / PAGE_SIZE);
-        Ok(())
-    } else {
-        Err(code)
-    }
+    page_write_code(image.len() as u64, marks.len() as u64, rva, size)?;
+    le::zero(image, rva.0 as usize, size as usize);
+    mark_pages(marks, rva.page(), size / PAGE_SIZE);
+    Ok(())
 }
 
 // Maps the given items at the given offset and zeros to the end of their last page; a whole number of pages is followed by one of zeros.
+#[tactic(auto, using(crate::proofs::Laws::padded_ways, refusal::specs::Refusal::answers))]
 pub fn writezx(image: &mut [u8], marks: &mut [u8], rva: RVA, items: &[u8]) -> Result<(), Refusal>
     ensures { LeavesBoth (padded_write_code (length image.old) (length marks.old) rva.0 (length items.now))
         image.old (splice image.old rva.0 (padded items.now)) image.new
         marks.old (mark_pages marks.old (page_of rva.0) (padded_pages (length items.now))) marks.new result }
 {
     let n = items.len() as u64;
-    let code = padded_write_code(image.len() as u64, marks.len() as u64, rva, n);
-    if code == 0 {
-        let at = rva.0 as usize;
-        le::copy(image, at, items);
-        let pages = n / PAGE_SIZE + 1;
-        le::zero(image, at + n as usize, (pages * PAGE_SIZE - n) as usize);
-        mark_pages(marks, rva.0 / PAGE_SIZE, pages);
-        Ok(())
-    } else {
-        Err(code)
-    }
+    padded_write_code(image.len() as u64, marks.len() as u64, rva, n)?;
+    let at = rva.0 as usize;
+    let pages = n / PAGE_SIZE + 1;
+    le::copy(image, at, items);
+    le::zero(image, at + items.len(), (pages * PAGE_SIZE - n) as usize);
+    mark_pages(marks, rva.page(), pages);
+    Ok(())
 }
 
 // A map with nothing mapped, for offsets up to `capacity`: the marks are cleared.
+#[tactic(auto, using(refusal::specs::Refusal::answers))]
 pub fn with_capacity(image: &[u8], marks: &mut [u8], capacity: RVA) -> Result<(), Refusal>
     ensures { Leaves (capacity_code (length image.now) (length marks.old) capacity.0)
         marks.old (replicate (length marks.old) 0) marks.new result }
 {
-    let n = marks.len();
-    let code = capacity_code(image.len() as u64, n as u64, capacity);
-    if code == 0 {
-        le::zero(marks, 0, n);
-        Ok(())
-    } else {
-        Err(code)
-    }
+    capacity_code(image.len() as u64, marks.len() as u64, capacity)?;
+    marks.fill(0);
+    Ok(())
 }
 
 // A map with just the given items, from offset 0.
@@ -108,8 +91,6 @@ pub fn from_items(image: &mut [u8], marks: &mut [u8], items: &[u8]) -> Result<()
         marks.old (mark_pages (replicate (length marks.old) 0) 0 (padded_pages (length items.now))) marks.new result }
 {
     let capacity = RVA(util::align(items.len() as u64, PAGE_SIZE));
-    match with_capacity(image, marks, capacity) {
-        Ok(()) => writezx(image, marks, RVA(0), items),
-        Err(code) => Err(code),
-    }
+    with_capacity(image, marks, capacity)?;
+    writezx(image, marks, RVA(0), items)
 }

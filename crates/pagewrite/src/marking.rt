@@ -5,6 +5,7 @@ ghost use Rattle.pagewrite.specs.Marking.{mark_page, mark_pages};
 use marks::{WORD_BYTES, WORD_PAGES};
 
 // Sets page p's bit.
+#[tactic(auto, using(crate::proofs::Laws::mark_is))]
 fn mark(marks: &mut [u8], p: u64)
     ensures { marks.new ≡ mark_page marks.old p }
 {
@@ -14,13 +15,12 @@ fn mark(marks: &mut [u8], p: u64)
 }
 
 // Sets the bits of the n pages from p on.
+#[tactic(auto, using(crate::proofs::Laws::pages_loop))]
 pub(crate) fn mark_pages(marks: &mut [u8], p: u64, n: u64)
     requires { p + n < 2 ^ 64 }
     ensures { marks.new ≡ mark_pages marks.old p n }
 {
-    let mut k: u64 = 0;
-    while k < n {
-        mark(marks, p + k);
-        k += 1;
+    for q in p..p + n {
+        mark(marks, q);
     }
 }

@@ -6,10 +6,3 @@ pub struct Progress {
     pub position: u64,
     pub done: bool,
 }
-
-// The portion is applied, or the call is refused by its number.
-#[derive(Clone, Copy)]
-pub enum Patch {
-    Applied(Progress),
-    Refused(u64),
-}

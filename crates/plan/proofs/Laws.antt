@@ -1,7 +1,7 @@
 -- The ways through the code. Assumes nothing.
-use Rattle.refusal.specs.declared.Refusal.TheVariants.{Externs, Pages, Storage}
+use Rattle.refusal.specs.declared.Refusal.TheVariants.{Target, Place, Base, Externs, Pages, Storage}
 use Rattle.refusal.specs.declared.Refusal.{Refusal}
-use Rattle.std.specs.Prelude.{Result, Ok, Err, Option, Some, None}
+use Rattle.std.specs.Prelude.{Result, Ok, Err, Option, Some, None, ok_or}
 use mathlib.Core.Path.{◌≡◌, refl, sym, ap, ◌∙◌}
 use mathlib.Core.Bool.{Bool, true, false, ◌&&◌}
 use mathlib.Core.List.{List, [], ◌∷◌, ◌++◌}
@@ -14,7 +14,7 @@ use lib.ListN.{length, length-take}
 use borrow.Author.Tests.{le-leb, lt-leb, ne_eqb, leb-true}
 use Rattle.limits.specs.Limits.{MAX_SECTIONS, MAX_PAGES, MAX_EXTERNS}
 use Rattle.limits.specs.Records.{SECTION_BYTES, SYMBOL_BYTES, EXTERN_BYTES, FIXUP_BYTES, SKIP_BYTES}
-use Rattle.refusal.specs.Refusal.{PAGES, EXTERNS, TARGET, PLACE, BASE, STORAGE}
+use Rattle.refusal.specs.Refusal.{Code, PASSES, PAGES, PLACE, BASE, STORAGE, answer_of}
 use Rattle.util.specs.Pick.{pick, le_or_lt, leb_same}
 use Rattle.arch.specs.declared.RVA.{RVA}
 use Rattle.arch.specs.Address.{rva}
@@ -26,7 +26,7 @@ use Rattle.object.specs.Format.{header_of}
 use Rattle.layout.specs.Layout.{pages_to, mapped_pages, undef_start}
 use Rattle.homes.specs.Home.{homes_to, home_in, section_home}
 use Rattle.checks.specs.Checks.{pages_ok, base_ok}
-use Rattle.checks.specs.CheckLaws.{pages_are}
+use Rattle.checks.specs.CheckLaws.{pages_are, pages_few}
 use Rattle.codes.specs.Code.{codes_to}
 use Rattle.externs.specs.Externs.{externs, names_of, slot_words, Holds}
 use Rattle.externs.specs.Slotted.{slotted, CodesAfter}
@@ -40,6 +40,7 @@ use Rattle.survey.specs.Survey.{Check, check, first_failed, early_checks, page_c
 use Rattle.survey.specs.Surveying.{Fits, behind_pages, planned_by, names_in, home_words, code_words, Cleared}
 use Rattle.survey.specs.TableLaws.{homes_whole, records_whole, names_whole, targets_whole}
 use Rattle.survey.specs.SurveyLaws.{check_holds, checks_hold, failed_first, Early, Ordered, early, early_rest, with_pages, records_rest, fits_is}
+use Rattle.survey.proofs.Laws.{some_is, none_is}
 use Rattle.plan.specs.declared.Lengths.{Lengths}
 use Rattle.plan.specs.Plan.{layout_room, lists_room, room_for, room_check, plan_checks, plan_by, Blank, Found, Plans}
 use Rattle.plan.specs.Planning.{first_checks, with_room, planned_counts, late_plan, PlannedIn}
@@ -83,12 +84,12 @@ pub ruleset rooms = (layout_is, lists_are, room_is)
 
 -- ---- 13 behind survey's answer
 module _ (s : Result Counts Refusal) (l : Lengths) (n : ℕ) where
-  pub room_refused : (k : ℕ) → s ≡ Err k → Err k ≡ with_room s l n
+  pub room_refused : (k : Refusal) → s ≡ Err k → Err k ≡ with_room s l n
   unfolding with_room
   room_refused k e = rw e
 
   module _ (c : Counts) (is : s ≡ Ok c) (b : Bool) (room : b ≡ room_for c l) where
-    pub room_yes : b ≡ true → Ready c n ≡ with_room s l n
+    pub room_yes : b ≡ true → Ok (c, n) ≡ with_room s l n
     unfolding with_room pick
     room_yes e = rw (is, ← room, e)
 
@@ -99,12 +100,12 @@ module _ (s : Result Counts Refusal) (l : Lengths) (n : ℕ) where
 pub ruleset room_ways = (room_refused, room_yes, room_no)
 
 -- ---- checks that pass hand on
-targets_pass : (t : Tally) → first_failed (target_checks t) ≡ 0 → (eqb t.refused 0 ≡ true) × (eqb t.outside 0 ≡ true)
+targets_pass : (t : Tally) → first_failed (target_checks t) ≡ PASSES → (eqb t.refused 0 ≡ true) × (eqb t.outside 0 ≡ true)
 targets_pass t e =
-    let a : first_failed (check (eqb t.outside 0) PLACE ∷ []) ≡ 0 = checks_hold (eqb t.refused 0) (TARGET - 1) (check (eqb t.outside 0) PLACE ∷ []) e in
-    (check_holds (eqb t.refused 0) (TARGET - 1) (check (eqb t.outside 0) PLACE ∷ []) e, check_holds (eqb t.outside 0) (PLACE - 1) [] a)
+    let a : first_failed (check (eqb t.outside 0) PLACE ∷ []) ≡ PASSES = checks_hold _ Target (check (eqb t.outside 0) PLACE ∷ []) e in
+    (check_holds _ Target (check (eqb t.outside 0) PLACE ∷ []) e, check_holds _ Place [] a)
 
-targets_rest : (t : Tally) (cs : List Check) → first_failed (target_checks t) ≡ 0 → first_failed (target_checks t ++ cs) ≡ first_failed cs
+targets_rest : (t : Tally) (cs : List Check) → first_failed (target_checks t) ≡ PASSES → first_failed (target_checks t ++ cs) ≡ first_failed cs
 unfolding first_failed pick
 targets_rest t cs e = let p = targets_pass t e in rw (p.0, p.1)
 
@@ -112,21 +113,19 @@ pages_pass : (f : List ℕ) (h : Header) (s : Result Counts Refusal) → mapped_
 unfolding pick
 pages_pass f h s k = rw (le-leb (mapped_pages f h) MAX_PAGES k)
 
-plan_refused : (k : ℕ) (c : Counts) (n : ℕ) → Err (suc k) ≡ plan_by (suc k) c n
-unfolding plan_by pick
-plan_refused k c n = rw (ne_eqb (suc k) 0 (λ z. absurd (omega arith)))
+plan_refused : (r : Refusal) (c : Counts) (n : ℕ) → Err r ≡ plan_by (Err r) c n
+unfolding answer_of
+plan_refused r c n = refl
 
-by_room : (b : Bool) (c : Counts) (n : ℕ) → pick b (Ready c n) (Err Storage) ≡ plan_by (pick b 0 STORAGE) c n
-unfolding plan_by pick
+by_room : (b : Bool) (c : Counts) (n : ℕ) → ◌≡◌ {A = Result (Counts × ℕ) Refusal} (pick b (Ok (c, n)) (Err Storage)) (plan_by (pick b PASSES STORAGE) c n)
+unfolding answer_of pick
 by_room true c n = refl
 by_room false c n = refl
 
-by_answer : (t : Tally) (c : Counts) (l : Lengths) (n k : ℕ) → first_failed (target_checks t) ≡ k → with_room (answer_by k c) l n ≡ plan_by (first_failed (target_checks t ++ room_check c l)) c n
-unfolding with_room answer_by first_failed pick
-by_answer t c l n zero e = rw (targets_rest t (room_check c l) e) (by_room (room_for c l) c n)
-by_answer t c l n (suc k) e =
-    let z : eqb (suc k) 0 ≡ false = ne_eqb (suc k) 0 (λ z. absurd (omega arith)) in
-    rw (z, failed_first (target_checks t) (room_check c l) k e) (plan_refused k c n)
+by_answer : (t : Tally) (c : Counts) (l : Lengths) (n : ℕ) (k : Code) → first_failed (target_checks t) ≡ k → with_room (answer_by k c) l n ≡ plan_by (first_failed (target_checks t ++ room_check c l)) c n
+unfolding with_room answer_of first_failed pick
+by_answer t c l n (Ok u) e = rw (targets_rest t (room_check c l) e) (by_room (room_for c l) c n)
+by_answer t c l n (Err r) e = rw (failed_first (target_checks t) (room_check c l) r e) (plan_refused r c n)
 
 count_of : Option ℕ → ℕ
 count_of (Some n) = n
@@ -134,7 +133,7 @@ count_of None = 0
 
 -- ---- 9 and what follows
 module _ (f : List ℕ) (h : Header) (homes codes : List ℕ) (l : Lengths) (codes' buf : List ℕ) (r : Option ℕ) (says : r ≡ names_of (names_in f h codes))
-    (words : buf ≡ slot_words (names_in f h codes)) (coded : CodesAfter f h codes (names_in f h codes) codes') where
+    (words : buf ≡ slot_words (names_in f h codes)) (coded : CodesAfter f h codes (names_in f h codes) codes') (q : Result ℕ Refusal) (said : q ≡ ok_or r Externs) where
   abbrev ys : List ℕ
   ys = names_in f h codes
 
@@ -144,17 +143,19 @@ module _ (f : List ℕ) (h : Header) (homes codes : List ℕ) (l : Lengths) (cod
   holds : Holds ys buf r
   holds = kept_holds ys buf r says words
 
-  pub plan_over : r ≡ None → PlannedIn f h homes codes l codes' buf (Err Externs)
+  pub plan_over : (k : Refusal) → q ≡ Err k → PlannedIn f h homes codes l codes' buf (Err k)
   unfolding first_failed pick
-  plan_over e =
-      let z : leb (length ys) MAX_EXTERNS ≡ false = lt-leb (length ys) MAX_EXTERNS (over_length ys buf r holds e) in
-      record { says = rw z (plan_refused (EXTERNS - 1) (planned_counts f h (home_in homes) target (length ys) l) (length ys)); words = words; coded = coded }
+  plan_over k e =
+      let g = none_is r k (sym said ∙ e) in
+      let z : leb (length ys) MAX_EXTERNS ≡ false = lt-leb (length ys) MAX_EXTERNS (over_length ys buf r holds g.0) in
+      record { says = rw (g.1, z) (plan_refused Externs (planned_counts f h (home_in homes) target (length ys) l) (length ys)); words = words; coded = coded }
 
-  pub plan_few : (n : ℕ) (u : RVA) (v : Result Counts Refusal) (x : Result (Counts × ℕ) Refusal) → mapped_pages f h ≤ MAX_PAGES → u ≡ rva (undef_start f h) → r ≡ Some n
+  pub plan_few : (n : ℕ) (u : RVA) (v : Result Counts Refusal) (x : Result (Counts × ℕ) Refusal) → mapped_pages f h ≤ MAX_PAGES → u ≡ rva (undef_start f h) → q ≡ Ok n
       → (u ≡ rva (undef_start f h) → v ≡ planned_by f h (home_in homes) (target_in homes (undef_start f h) codes') n) → x ≡ with_room v l n
       → PlannedIn f h homes codes l codes' buf x
   unfolding first_failed pick count_of
-  plan_few n u v x room start e d y =
+  plan_few n u v x room start e₀ d y =
+      let e = some_is r n (sym said ∙ e₀) in
       let few = count_room ys buf r holds n e in
       let list = count_list ys buf r holds n e in
       let z : leb (length ys) MAX_EXTERNS ≡ true = le-leb (length ys) MAX_EXTERNS (rw (← list, length-take) (omega arith)) in
@@ -169,7 +170,7 @@ pub ruleset naming = (plan_over, plan_few)
 
 -- ---- 12, then 1 to 7
 module _ (f : List ℕ) (h : Header) (base : ℕ) (b : Bool) (is : b ≡ base_ok base) where
-  pub first_records : (r : ℕ) → r ≡ first_failed (early_checks f h) → b ≡ true → r ≡ first_failed (first_checks f h base)
+  pub first_records : (r : Code) → r ≡ first_failed (early_checks f h) → b ≡ true → r ≡ first_failed (first_checks f h base)
   unfolding first_failed pick
   first_records r e t = rw (← is, t) e
 
@@ -179,48 +180,44 @@ module _ (f : List ℕ) (h : Header) (base : ℕ) (b : Bool) (is : b ≡ base_ok
 
 pub ruleset first = (first_records, first_base)
 
-module _ (f : List ℕ) (h : Header) (base code : ℕ) (is : code ≡ first_failed (first_checks f h base)) (z : code ≡ 0) where
+module _ (f : List ℕ) (h : Header) (base : ℕ) (code : Code) (is : code ≡ first_failed (first_checks f h base)) (v : Unit) (z : code ≡ Ok v) where
   allowed : base_ok base ≡ true
-  allowed = check_holds (base_ok base) (BASE - 1) (early_checks f h) (sym is ∙ z)
+  allowed = check_holds (base_ok base) Base (early_checks f h) (sym is ∙ z)
 
   seven : Early f h
-  seven = early f h [] (checks_hold (base_ok base) (BASE - 1) (early_checks f h) (sym is ∙ z))
+  seven = early f h [] (checks_hold (base_ok base) Base (early_checks f h) (sym is ∙ z))
 
 -- ---- the whole plan
-module _ (f : List ℕ) (h : Header) (base : ℕ) (l : Lengths) (code : ℕ) (homes₀ codes₀ slots₀ : List ℕ) (is : code ≡ first_failed (first_checks f h base)) (head : h ≡ header_of f) where
+module _ (f : List ℕ) (h : Header) (base : ℕ) (l : Lengths) (code : Code) (homes₀ codes₀ slots₀ : List ℕ) (is : code ≡ first_failed (first_checks f h base)) (head : h ≡ header_of f) where
   abbrev behind : List Check
   behind = extern_checks (length (externs f h)) ++ (target_checks (tally f h) ++ room_check (counts f h) l)
 
-  abbrev whole : ℕ
+  abbrev whole : Code
   whole = first_failed (plan_checks f h base l)
 
-  no_by : (homes codes slots : List ℕ) (k : ℕ) → whole ≡ suc k → Plans f (header_of f) base l homes codes slots (Err (suc k))
-  no_by homes codes slots k g =
-      let p : Plans f h base l homes codes slots (Err (suc k)) =
-      record { says = rw g (plan_refused k (counts f h) (length (externs f h))); found = λ e. absurd (omega arith) } in
+  no_by : (homes codes slots : List ℕ) (r : Refusal) → whole ≡ Err r → Plans f (header_of f) base l homes codes slots (Err r)
+  no_by homes codes slots r g =
+      let p : Plans f h base l homes codes slots (Err r) =
+      record { says = rw g (plan_refused r (counts f h) (length (externs f h))); found = λ e. let z : ◌≡◌ {A = Code} (Err r) PASSES = sym g ∙ e in absurd cc } in
       rw (← head) p
 
-  first_no : (k : ℕ) → k ≡ first_failed (first_checks f h base) → (k ≡ 0 → ⊥) → Plans f (header_of f) base l homes₀ codes₀ slots₀ (Err k)
-  first_no zero e z = absurd (z refl)
-  first_no (suc k) e z = no_by homes₀ codes₀ slots₀ k (failed_first (first_checks f h base) (page_checks f h ++ behind) k (sym e))
-
-  pub plans_no : (code ≡ 0 → ⊥) → Blank (header_of f) homes₀ codes₀ slots₀ → Plans f (header_of f) base l homes₀ codes₀ slots₀ (Err code)
-  plans_no z blank = first_no code is z
+  pub plans_no : (r : Refusal) → code ≡ Err r → Blank (header_of f) homes₀ codes₀ slots₀ → Plans f (header_of f) base l homes₀ codes₀ slots₀ (Err r)
+  plans_no r z blank = no_by homes₀ codes₀ slots₀ r (failed_first (first_checks f h base) (page_checks f h ++ behind) r (sym is ∙ z))
 
   -- 8
-  whole_pages_lem : code ≡ 0 → pages_ok f h ≡ false → whole ≡ PAGES
+  whole_pages_lem : (v : Unit) → code ≡ Ok v → pages_ok f h ≡ false → whole ≡ PAGES
   unfolding first_failed pick
-  whole_pages_lem z t = rw (allowed f h base code is z) (early_rest f h (page_checks f h ++ behind) (seven f h base code is z) ∙ rw t)
+  whole_pages_lem v z t = rw (allowed f h base code is v z) (early_rest f h (page_checks f h ++ behind) (seven f h base code is v z) ∙ rw t)
 
-  pub plans_large : (homes : List ℕ) (b : Bool) (u : RVA) → code ≡ 0 → b ≡ leb (pages_to u.0) MAX_PAGES → b ≡ false → u ≡ rva (undef_start f h)
+  pub plans_large : (v : Unit) (homes : List ℕ) (b : Bool) (u : RVA) → code ≡ Ok v → b ≡ leb (pages_to u.0) MAX_PAGES → b ≡ false → u ≡ rva (undef_start f h)
       → Blank (header_of f) homes₀ codes₀ slots₀ → Plans f (header_of f) base l homes codes₀ slots₀ (Err Pages)
-  plans_large homes b u z q e start blank = no_by homes codes₀ slots₀ (PAGES - 1) (whole_pages_lem z (sym (pages_are f h b u q start) ∙ e))
+  plans_large v homes b u z q e start blank = no_by homes codes₀ slots₀ Pages (whole_pages_lem v z (sym (pages_are f h b u q start) ∙ e))
 
   -- with the words filled, the plan by them is the one by the rules, and where it is ready they say what the rules do
   module _ (ok : Ordered f h) (fits : Fits f h) (codes slots : List ℕ) (x : Result (Counts × ℕ) Refusal) (p : PlannedIn f h (home_words f h) (code_words f h) l codes slots x) where
     whole_plan : late_plan f h (home_in (home_words f h)) (target_in (home_words f h) (undef_start f h) (slotted f h (externs f h) (code_words f h))) (length (externs f h)) l
         ≡ late_plan f h (section_home f h) (targets f h) (length (externs f h)) l
-    unfolding first_failed plan_by pick
+    unfolding first_failed answer_of pick
     whole_plan =
         ⊎_elim (λ k. rw (targets_whole f h fits ok.numbers k, homes_whole f h fits)) (λ k. rw (lt-leb (length (externs f h)) MAX_EXTERNS k)) (le_or_lt (length (externs f h)) MAX_EXTERNS)
 
@@ -249,14 +246,16 @@ module _ (f : List ℕ) (h : Header) (base : ℕ) (l : Lengths) (code : ℕ) (ho
   unfolding first_failed pick
   whole_is a o = rw a (records_rest f h behind o)
 
-  pub plans_yes : (homes codes codes' slots : List ℕ) (x : Result (Counts × ℕ) Refusal) (b : Bool) (u : RVA) → code ≡ 0 → b ≡ leb (pages_to u.0) MAX_PAGES → b ≡ true → u ≡ rva (undef_start f h) → homes ≡ splice homes₀ 0 (homes_to f h h.sections)
+  pub plans_yes : (v : Unit) (homes codes codes' slots : List ℕ) (x : Result (Counts × ℕ) Refusal) (b : Bool) (u : RVA) → code ≡ Ok v → b ≡ leb (pages_to u.0) MAX_PAGES → b ≡ true → u ≡ rva (undef_start f h) → homes ≡ splice homes₀ 0 (homes_to f h h.sections)
       → (h.sections ≤ MAX_SECTIONS → codes ≡ splice codes₀ 0 (codes_to f h h.symbols)) → PlannedIn f h homes codes l codes' slots x → Blank (header_of f) homes₀ codes₀ slots₀ → Plans f (header_of f) base l homes codes' slots x
-  plans_yes homes codes codes' slots x b u z t y start e w p blank =
-      let o = with_pages f h (seven f h base code is z) (sym (pages_are f h b u t start) ∙ y) in
+  plans_yes v homes codes codes' slots x b u z t y start e w p blank =
+      let o = with_pages f h (seven f h base code is v z) (sym (pages_are f h b u t start) ∙ y) in
       let fits = fits_is f h head o in
       let clear : Cleared h homes₀ codes₀ = rw (← head) at blank.zeros in
       let a : homes ≡ home_words f h = rw clear.no_homes at e in
       let c : codes ≡ code_words f h = rw clear.no_codes at (w fits.sections) in
       let q : Plans f h base l homes codes' slots x =
-      rw a (whole_yes o fits codes' slots x (rw (a, c) at p) (whole_is (allowed f h base code is z) o)) in
+      rw a (whole_yes o fits codes' slots x (rw (a, c) at p) (whole_is (allowed f h base code is v z) o)) in
       rw (← head) q
+
+pub ruleset planning = (plans_no, plans_large, plans_yes, pages_few)

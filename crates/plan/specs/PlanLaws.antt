@@ -1,9 +1,10 @@
 -- What a plan tells: its code; and that each buffer has room for what is counted.
 use Rattle.refusal.specs.declared.Refusal.{Refusal}
-use Rattle.std.specs.Prelude.{◌≡◌, refl, true, false, ◌&&◌, ℕ, zero, suc, ◌*◌, ◌≤◌, eqb, leb, Result, Ok, Err}
-use Rattle.std.proofs.Common.{arith, leb-true, ne_eqb}
+use Rattle.std.specs.Prelude.{◌≡◌, refl, true, false, ◌&&◌, ℕ, ◌*◌, ◌≤◌, leb, Ok, Err}
+use Rattle.std.proofs.Common.{leb-true}
 use Rattle.limits.specs.Records.{SECTION_BYTES, SYMBOL_BYTES, EXTERN_BYTES, FIXUP_BYTES, SKIP_BYTES}
-use Rattle.util.specs.Pick.{pick, and_left, and_right}
+use Rattle.util.specs.Pick.{and_left, and_right}
+use Rattle.refusal.specs.Refusal.{Code, PASSES, answer_of}
 use Rattle.arch.specs.Page.{PAGE_SIZE}
 use Rattle.marks.specs.Marks.{WORD_BYTES, words_for}
 use Rattle.survey.specs.declared.answer.Counts.{Counts}
@@ -11,21 +12,15 @@ use Rattle.plan.specs.declared.Lengths.{Lengths}
 use Rattle.plan.specs.Plan.{layout_room, lists_room, plan_by}
 
 -- ---- a plan tells its code
-pub plan_says : (code : ℕ) (c : Counts) (n : ℕ) (a : Counts) (m : ℕ) → Ready a m ≡ plan_by code c n → (code ≡ 0) × (a ≡ c) × (m ≡ n)
-unfolding plan_by pick
-plan_says zero c n a m e = (refl, cc, cc)
-plan_says (suc k) c n a m e =
-    let t : eqb (suc k) 0 ≡ false = ne_eqb (suc k) 0 (λ z. absurd (omega arith)) in
-    let z : Ready a m ≡ Err (suc k) = rw t at e in
-    absurd (let w : ◌≡◌ {A = ℕ} 0 1 = cc in omega arith)
+pub plan_says : (code : Code) (c : Counts) (n : ℕ) (a : Counts) (m : ℕ) → Ok (a, m) ≡ plan_by code c n → (code ≡ PASSES) × (a ≡ c) × (m ≡ n)
+unfolding answer_of
+plan_says (Ok u) c n a m e = (refl, cc, cc)
+plan_says (Err r) c n a m e = cc
 
-pub plan_says_no : (code : ℕ) (c : Counts) (n k : ℕ) → Err k ≡ plan_by code c n → (code ≡ k) × (code ≡ 0 → ⊥)
-unfolding plan_by pick
-plan_says_no zero c n k e = absurd (let w : ◌≡◌ {A = ℕ} 0 1 = cc in omega arith)
-plan_says_no (suc j) c n k e =
-    let t : eqb (suc j) 0 ≡ false = ne_eqb (suc j) 0 (λ z. absurd (omega arith)) in
-    let z : Err k ≡ Err (suc j) = rw t at e in
-    (cc, λ q. absurd (omega arith))
+pub plan_says_no : (code : Code) (c : Counts) (n : ℕ) (r : Refusal) → Err r ≡ plan_by code c n → code ≡ Err r
+unfolding answer_of
+plan_says_no (Ok u) c n r e = cc
+plan_says_no (Err k) c n r e = cc
 
 -- ---- there was room for each
 pub record Rooms (c : Counts) (l : Lengths) : Type 0 where

@@ -11,9 +11,9 @@ ghost use Rattle.plan.specs.Plan.{layout_room, lists_room, room_for, Blank, Plan
 ghost use Rattle.plan.specs.Planning.{first_checks, with_room, PlannedIn};
 
 use arch::{PAGE_SIZE, RVA, VA};
-use externs::Names;
 use object::Header;
-use survey::{Counts, Survey};
+use refusal::Refusal;
+use survey::Counts;
 
 // The bytes of each lent buffer.
 #[derive(Clone, Copy)]
@@ -27,66 +27,54 @@ pub struct Lengths {
     pub skips: usize,
 }
 
-// What is known before a buffer is touched: a refusal, or the counts and how many extern names there are.
-#[derive(Clone, Copy)]
-pub enum Plan {
-    Refused(u64),
-    Ready(Counts, usize),
-}
-
 // The first three buffers have room.
+#[tactic(auto, using(crate::proofs::Laws::rooms))]
 fn layout_room(c: Counts, l: Lengths) -> bool
     ensures { result ≡ layout_room c l }
 {
-    util::both(
-        c.pages <= l.image as u64 / PAGE_SIZE,
-        util::both(
-            marks::words_for(c.pages) <= l.marks as u64 / marks::WORD_BYTES,
-            c.sections <= l.sections as u64 / limits::SECTION_BYTES as u64,
-        ),
-    )
+    c.pages <= l.image as u64 / PAGE_SIZE
+        && marks::words_for(c.pages) <= l.marks as u64 / marks::WORD_BYTES
+        && c.sections <= l.sections as u64 / limits::SECTION_BYTES as u64
 }
 
 // The other four have room.
+#[tactic(auto, using(crate::proofs::Laws::rooms))]
 fn lists_room(c: Counts, l: Lengths) -> bool
     ensures { result ≡ lists_room c l }
 {
-    util::both(
-        c.symbols <= l.symbols as u64 / limits::SYMBOL_BYTES as u64,
-        util::both(
-            c.externs <= l.externs as u64 / limits::EXTERN_BYTES as u64,
-            util::both(
-                c.fixups <= l.fixups as u64 / limits::FIXUP_BYTES as u64,
-                c.skips <= l.skips as u64 / limits::SKIP_BYTES as u64,
-            ),
-        ),
-    )
+    c.symbols <= l.symbols as u64 / limits::SYMBOL_BYTES as u64
+        && c.externs <= l.externs as u64 / limits::EXTERN_BYTES as u64
+        && c.fixups <= l.fixups as u64 / limits::FIXUP_BYTES as u64
+        && c.skips <= l.skips as u64 / limits::SKIP_BYTES as u64
 }
 
 // 13: each lent buffer has room for what is counted.
+#[tactic(auto, using(crate::proofs::Laws::rooms))]
 fn room_ok(c: Counts, l: Lengths) -> bool
     ensures { result ≡ room_for c l }
 {
-    util::both(layout_room(c, l), lists_room(c, l))
+    layout_room(c, l) && lists_room(c, l)
 }
 
 // 13 behind survey's refusals.
-fn with_room(s: Result<Counts, Refusal>, l: Lengths, n: usize) -> Result<(Counts, usize), Refusal>
+#[tactic(auto, using(crate::proofs::Laws::room_ways))]
+fn with_room(
+    s: Result<Counts, Refusal>,
+    l: Lengths,
+    n: usize,
+) -> Result<(Counts, usize), Refusal>
     ensures { result ≡ with_room s l n }
 {
-    match s {
-        Err(k) => Err(k),
-        Ok(c) => {
-            if room_ok(c, l) {
-                Ok((c, n))
-            } else {
-                Err(Refusal::Storage)
-            }
-        }
+    let c = s?;
+    if room_ok(c, l) {
+        Ok((c, n))
+    } else {
+        Err(Refusal::Storage)
     }
 }
 
 // From refusal 9 on.
+#[tactic(auto, using(crate::proofs::Laws::naming))]
 fn plan_names(
     f: &[u8],
     h: Header,
@@ -100,25 +88,25 @@ fn plan_names(
     ensures planned_in { PlannedIn f.now h homes.now codes.old l codes.new slots.new result }
     ensures slots_len { length slots.new ≡ EXTERN_ROOM }
 {
-    match externs::collect(f, h, codes, slots) {
-        Names::TooMany => Err(Refusal::Externs),
-        Names::Count(n) => with_room(survey::survey_planned(f, h, homes, undef, codes, n), l, n),
-    }
+    let n = externs::collect(f, h, codes, slots).ok_or(Refusal::Externs)?;
+    with_room(survey::survey_planned(f, h, homes, undef, codes, n), l, n)
 }
 
 // 12, then 1 to 7.
-fn first_code(f: &[u8], h: Header, base: VA) -> u64
+#[tactic(auto, using(crate::proofs::Laws::first))]
+fn check_first(f: &[u8], h: Header, base: VA) -> Result<(), Refusal>
     ensures { result ≡ first_failed (first_checks f.now h base.0) }
 {
     if checks::base_ok(base) {
-        survey::records_code(f, h)
+        survey::check_records(f, h)
     } else {
-        Refusal::Base
+        Err(Refusal::Base)
     }
 }
 
-// All refusals in their order; the arrays are the caller's, and what they then hold is told where they held zeros.
-// The length is said for a caller, who knows no more of a lent array than this.
+// All refusals in their order, or the counts and how many extern names there are; the arrays are the caller's, and what they then hold is told where they
+// held zeros. The length is said for a caller, who knows no more of a lent array than this.
+#[tactic(auto, using(crate::proofs::Laws::planning))]
 pub fn plan_file(
     f: &[u8],
     base: VA,
@@ -132,16 +120,12 @@ pub fn plan_file(
     ensures slots_len { length slots.old ≡ EXTERN_ROOM → length slots.new ≡ EXTERN_ROOM }
 {
     let h = object::read_header(f);
-    let code = first_code(f, h, base);
-    if code == 0 {
-        let undef = homes::fill_homes(f, h, homes);
-        if checks::pages_fit(undef) {
-            codes::fill_codes(f, h, codes);
-            plan_names(f, h, l, homes, undef, codes, slots)
-        } else {
-            Err(Refusal::Pages)
-        }
+    check_first(f, h, base)?;
+    let undef = homes::fill_homes(f, h, homes);
+    if checks::pages_fit(undef) {
+        codes::fill_codes(f, h, codes);
+        plan_names(f, h, l, homes, undef, codes, slots)
     } else {
-        Err(code)
+        Err(Refusal::Pages)
     }
 }

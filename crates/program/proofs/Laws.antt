@@ -1,4 +1,6 @@
 -- The lines that are written, and what is held meanwhile. Assumes nothing.
+use Rattle.refusal.specs.declared.Refusal.{Refusal}
+use Rattle.refusal.specs.Refusal.{refusal_number}
 use Rattle.patch.specs.declared.answer.Progress.{Progress}
 use Rattle.refusal.specs.declared.Refusal.{Refusal}
 use Rattle.std.specs.Prelude.{Result, Ok, Err}
@@ -48,12 +50,12 @@ module _ (f : List ℕ) (a : List ℕ) (n : ℕ) (line : List ℕ) where
         early = omega arith;
       }
 
-  pub said_refused : (k number : ℕ) → k ≡ 0 → number < 2 ^ 64 → verdict_of f ≡ Refused number → Puts (replicate LINE_ROOM 0) 0 (refused_line number) a n → line ≡ part a 0 n → Said f k line
+  pub said_refused : (k number : ℕ) (r : Refusal) → k ≡ 0 → number < 2 ^ 64 → verdict_of f ≡ Refused r → number ≡ refusal_number r → Puts (replicate LINE_ROOM 0) 0 (refused_line number) a n → line ≡ part a 0 n → Said f k line
   unfolding line_of
-  said_refused k number z l e p q =
+  said_refused k number r z l e o p q =
       let m = refused_long number l in
       record {
-        is = rw (e, z) (q ∙ puts_whole (refused_line number) (replicate LINE_ROOM 0) a n p (rw (length-replicate {A = ℕ} LINE_ROOM 0) (omega arith)));
+        is = rw (e, z, ← o) (q ∙ puts_whole (refused_line number) (replicate LINE_ROOM 0) a n p (rw (length-replicate {A = ℕ} LINE_ROOM 0) (omega arith)));
         early = omega arith;
       }
 
@@ -80,7 +82,7 @@ module _ (f : List ℕ) where
   unfolding line_total
   one_large r k e z q = rw e (rw z at q)
 
-  pub one_refused : (r k n : ℕ) → verdict_of f ≡ Refused n → k ≡ 0 → r ≡ k + 1 → r ≡ line_total f
+  pub one_refused : (r k : ℕ) (n : Refusal) → verdict_of f ≡ Refused n → k ≡ 0 → r ≡ k + 1 → r ≡ line_total f
   unfolding line_total
   one_refused r k n e z q = rw e (rw z at q)
 
@@ -111,7 +113,7 @@ module _ (f : List ℕ) (r : Verdict) (e : r ≡ verdict_of f) where
   pub is_large : r ≡ TooLarge → verdict_of f ≡ TooLarge
   is_large q = sym e ∙ q
 
-  pub is_refused : (n : ℕ) → r ≡ Refused n → verdict_of f ≡ Refused n
+  pub is_refused : (n : Refusal) → r ≡ Refused n → verdict_of f ≡ Refused n
   is_refused n q = sym e ∙ q
 
   pub is_within : (c : Counts) → r ≡ Lines c → Within f c

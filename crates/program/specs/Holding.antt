@@ -8,7 +8,7 @@ use mathlib.Core.List.{List, [], ◌∷◌, ◌++◌}
 use native.Mathlib.Omega.{arith}
 use Rattle.std.proofs.Math.ListN.{length}
 use Rattle.refusal.specs.Refusal as refusal
-use Rattle.refusal.specs.Refusal.{STORAGE, unless_refused}
+use Rattle.refusal.specs.Refusal.{Code, PASSES, STORAGE, answer_of, unless_refused}
 use Rattle.util.specs.Pick.{pick, not_both}
 use Rattle.arch.specs.Page.{PAGE_SIZE}
 use Rattle.le.specs.Le.{part, length_splice}
@@ -28,7 +28,7 @@ use Rattle.patch.specs.Fixes.{fix_count}
 use Rattle.patch.specs.Patch.{portion, patch_code, Patches}
 use Rattle.plan.specs.Plan.{layout_room, lists_room}
 use Rattle.storage.specs.Storage.{Storage, stored_by, stored}
-use Rattle.loading.specs.Load.{room_ok, load_checks, load_answer, Loads}
+use Rattle.loading.specs.Load.{room_ok, load_checks, Loads}
 use Rattle.load.specs.LoadLaws.{load_accepts, load_leaves}
 use Rattle.demands.specs.Calls.{after_calls}
 use Rattle.demands.specs.Origin.{fixups_of, slots_of}
@@ -77,16 +77,16 @@ pub record Printed (f image : List ℕ) (lines : ℕ) : Type 0 where
   pub patched : image ≡ patched_image f
 
 -- ---- load is not refused
-none_fails : (xs ys : List Check) → first_failed xs ≡ 0 → first_failed ys ≡ 0 → first_failed (xs ++ ys) ≡ 0
+none_fails : (xs ys : List Check) → first_failed xs ≡ PASSES → first_failed ys ≡ PASSES → first_failed (xs ++ ys) ≡ PASSES
 unfolding first_failed pick
 none_fails [] ys p q = q
 none_fails (x ∷ xs) ys p q = by_test x.passes p (none_fails xs ys)
   where
-    by_test : (b : Bool) → pick b (first_failed xs) x.number ≡ 0 → (first_failed xs ≡ 0 → first_failed ys ≡ 0 → first_failed (xs ++ ys) ≡ 0) → pick b (first_failed (xs ++ ys)) x.number ≡ 0
+    by_test : (b : Bool) → pick b (first_failed xs) x.refusal ≡ PASSES → (first_failed xs ≡ PASSES → first_failed ys ≡ PASSES → first_failed (xs ++ ys) ≡ PASSES) → pick b (first_failed (xs ++ ys)) x.refusal ≡ PASSES
     by_test true e r = r e q
     by_test false e r = e
 
-check_passes : (b : Bool) (n : ℕ) (cs : List Check) → b ≡ true → first_failed cs ≡ 0 → first_failed (check b n ∷ cs) ≡ 0
+check_passes : (b : Bool) (n : Code) (cs : List Check) → b ≡ true → first_failed cs ≡ PASSES → first_failed (check b n ∷ cs) ≡ PASSES
 unfolding first_failed pick
 check_passes true n cs e q = q
 check_passes false n cs e q = not_both false e refl
@@ -117,7 +117,7 @@ unfolding base_ok
 base_good = refl
 
 module _ (f : List ℕ) (c : Counts) (few : Within f c) where
-  passes : first_failed (checks f (header_of f)) ≡ 0
+  passes : first_failed (checks f (header_of f)) ≡ PASSES
   passes = (tells_accepted (first_failed (checks f (header_of f))) (counts f (header_of f)) c few.accepted).0
 
   are : counts f (header_of f) ≡ c
@@ -137,7 +137,7 @@ module _ (f : List ℕ) (c : Counts) (few : Within f c) where
       let d = few.fixups in
       omega arith
 
-  not_refused : patch_code (length (image_of f PROGRAM_BASE)) (marks_of f) PROGRAM_BASE (fix_table_of f PROGRAM_BASE) 18446744073709551615 0 ≡ 0
+  not_refused : patch_code (length (image_of f PROGRAM_BASE)) (marks_of f) PROGRAM_BASE (fix_table_of f PROGRAM_BASE) 18446744073709551615 0 ≡ PASSES
   unfolding after_calls pick
   not_refused = rw at.long (at.refused 18446744073709551615 0 ∙ rw (le-leb 0 (length (fixups_of f)) (omega arith)))
 
@@ -150,17 +150,17 @@ module _ (f : List ℕ) (c : Counts) (few : Within f c) where
       e
 
   module _ (s s' : Storage) (r : Result Counts Refusal) (sized : Sized c s) (loads : Loads f PROGRAM_BASE s s' r) where
-    has_room : first_failed (check (room_ok (counts f (header_of f)) s) STORAGE ∷ []) ≡ 0
+    has_room : first_failed (check (room_ok (counts f (header_of f)) s) STORAGE ∷ []) ≡ PASSES
     unfolding first_failed
     has_room = check_passes (room_ok (counts f (header_of f)) s) STORAGE [] (rw are (room c s sized)) refl
 
-    code : first_failed (load_checks f (header_of f) PROGRAM_BASE s) ≡ 0
+    code : first_failed (load_checks f (header_of f) PROGRAM_BASE s) ≡ PASSES
     code =
         check_passes (base_ok PROGRAM_BASE) refusal.BASE (checks f (header_of f) ++ (check (room_ok (counts f (header_of f)) s) STORAGE ∷ [])) base_good
         (none_fails (checks f (header_of f)) (check (room_ok (counts f (header_of f)) s) STORAGE ∷ []) passes has_room)
 
     loaded : Loads f PROGRAM_BASE s s' (Ok c)
-    unfolding load_answer pick
+    unfolding answer_of
     loaded = record { says = rw (code, are); leaves = loads.leaves }
 
     lends : Lends f PROGRAM_BASE s' c

@@ -1,5 +1,6 @@
 -- What the program prints for a file, line by line, and the image that it holds then (01, "A small object").
 use Rattle.std.specs.Prelude.{List, [], ◌∷◌, ℕ, length, get_or}
+use Rattle.refusal.specs.Refusal.{refusal_number}
 use Rattle.object.specs.Format.{header_of}
 use Rattle.object.specs.Section.{relocation_count}
 use Rattle.lists.specs.Relocations.{skip_table}
@@ -23,7 +24,7 @@ skip_table_of f = skip_table (outcomes f (header_of f)) (relocation_count f (hea
 -- `too large`, `refused N`, or the lines of the load
 abbrev pub lines_by : List ℕ → Verdict → List (List ℕ)
 lines_by f TooLarge = too_large_line ∷ []
-lines_by f (Refused n) = refused_line n ∷ []
+lines_by f (Refused r) = refused_line (refusal_number r) ∷ []
 lines_by f (Lines c) = listing f PROGRAM_BASE c (sections_of f PROGRAM_BASE) (symbols_of f PROGRAM_BASE) (externs_of f PROGRAM_BASE) (fix_table_of f PROGRAM_BASE) (skip_table_of f)
 
 -- line k, from 0

@@ -1,6 +1,7 @@
 -- What a file has whose lines are printed: no more than the program has room for.
 use Rattle.refusal.specs.declared.Refusal.{Refusal}
-use Rattle.std.specs.Ordering.{Ordering, Less, Equal, Greater}
+use Rattle.std.specs.declared.cmp.Ordering.{Ordering}
+use Rattle.std.specs.declared.cmp.Ordering.TheVariants.{Less, Equal, Greater}
 use Rattle.std.specs.Prelude.{◌≡◌, refl, Bool, leb, Result, Ok, Err}
 use Rattle.std.proofs.Common.{ap}
 use Rattle.std.proofs.Math.Bool.{true, false}

@@ -12,7 +12,10 @@ ghost use Rattle.program.specs.Holding.{Ready, HoldsTables, Printed};
 ghost use Rattle.storage.specs.Storage.{storage};
 
 use arch::{PAGE_SIZE, VA};
+use listing::Tables;
+use refusal::Refusal;
 use survey::Counts;
+use text::Writer;
 use verdict::Verdict;
 pub use written::{Written, count};
 
@@ -45,17 +48,25 @@ fn too_large(f: &[u8]) -> Written
     ensures { result.lines ≡ line_total f.now }
 {
     let mut line = [0u8; LINE_ROOM];
-    let n = lines::too_large_line(&mut line);
-    written::say(f, written::none(), le::part(&line, 0, n))
+    let mut out = Writer {
+        out: &mut line,
+        at: 0,
+    };
+    lines::too_large_line(&mut out);
+    written::say(f, written::none(), out.written())
 }
 
-fn refused(f: &[u8], number: u64) -> Written
-    requires { verdict_of f.now ≡ verdicts.Refused number }
+fn refused(f: &[u8], refusal: Refusal) -> Written
+    requires { verdict_of f.now ≡ verdicts.Refused refusal }
     ensures { result.lines ≡ line_total f.now }
 {
     let mut line = [0u8; LINE_ROOM];
-    let n = lines::refused_line(&mut line, number);
-    written::say(f, written::none(), le::part(&line, 0, n))
+    let mut out = Writer {
+        out: &mut line,
+        at: 0,
+    };
+    lines::refused_line(&mut out, refusal.number());
+    written::say(f, written::none(), out.written())
 }
 
 // The next line of the load.
@@ -74,19 +85,21 @@ fn list_line(
     ensures { result.lines ≡ w.lines + 1 }
 {
     let mut line = [0u8; LINE_ROOM];
-    let n = listing::line(
-        f,
-        VA(BASE),
-        c,
+    let mut out = Writer {
+        out: &mut line,
+        at: 0,
+    };
+    let tables = Tables {
+        file: f,
+        counts: c,
         sections,
         symbols,
         externs,
         fixups,
         skips,
-        written::count(w),
-        &mut line,
-    );
-    written::say(f, w, le::part(&line, 0, n))
+    };
+    tables.line(VA(BASE), written::count(w), &mut out);
+    written::say(f, w, out.written())
 }
 
 // Every line of the load.
@@ -170,7 +183,7 @@ fn loaded(
     requires { Ready f.now c (storage image.old marks.old sections.old symbols.old externs.old fixups.old skips.old) }
     ensures { Printed f.now image.new result.lines }
 {
-    load::load(
+    let _ = load::load(
         f,
         VA(BASE),
         image,
@@ -181,7 +194,7 @@ fn loaded(
         fixups,
         skips,
     );
-    patch::patch(VA(BASE), image, marks, fixups, u64::MAX, 0);
+    let _ = patch::patch(VA(BASE), image, marks, fixups, u64::MAX, 0);
     list(f, c, sections, symbols, externs, fixups, skips)
 }
 
@@ -191,7 +204,7 @@ pub fn top_up(f: &[u8]) -> Written
 {
     match verdict::verdict(f) {
         Verdict::TooLarge => too_large(f),
-        Verdict::Refused(n) => refused(f, n),
+        Verdict::Refused(r) => refused(f, r),
         Verdict::Lines(c) => lend(f, c),
     }
 }

@@ -1,5 +1,5 @@
 -- Refusals, and what is said where one may apply.
-use Rattle.std.specs.Prelude.{◌≡◌, ℕ, Result, Ok, Err}
+use Rattle.std.specs.Prelude.{◌≡◌, refl, ℕ, List, [], ◌∷◌, slice_index_or, Result, Ok, Err}
 use Rattle.std.proofs.Common.{sym, ◌∙◌}
 use Rattle.refusal.specs.declared.Refusal.{Refusal}
 use Rattle.refusal.specs.declared.Refusal.TheVariants.{FileSize, Machine, SectionTable, SymbolTable, SectionData, Name, SectionNumber, Pages, Externs, Target, Place, Base, Storage, Position, NotMapped, NotOnAPage, NotWholePages, TooLong, NoSection, NoEntry, NoRoutine, RawData, Overlap}
@@ -39,9 +39,73 @@ abbrev pub code_number : {A : Type 0} → Result A Refusal → ℕ
 code_number (Ok _) = 0
 code_number (Err r) = refusal_number r
 
+-- an answer without what it hands out
+abbrev pub code_of : {A : Type 0} → Result A Refusal → Code
+code_of (Ok _) = Ok tt
+code_of (Err r) = Err r
+
 -- nothing is refused
 abbrev pub PASSES : Code
 PASSES = Ok tt
+
+-- and back: no two refusals have one number, and none has 0
+abbrev NUMBERED : List Code
+NUMBERED =
+    PASSES
+    ∷ Err FileSize
+    ∷ Err Machine
+    ∷ Err SectionTable
+    ∷ Err SymbolTable
+    ∷ Err SectionData
+    ∷ Err Name
+    ∷ Err SectionNumber
+    ∷ Err Pages
+    ∷ Err Externs
+    ∷ Err Target
+    ∷ Err Place
+    ∷ Err Base
+    ∷ Err Storage
+    ∷ Err Position
+    ∷ Err NotMapped
+    ∷ Err NotOnAPage
+    ∷ Err NotWholePages
+    ∷ Err TooLong
+    ∷ Err NoSection
+    ∷ Err NoEntry
+    ∷ Err NoRoutine
+    ∷ Err RawData
+    ∷ Err Overlap
+    ∷ []
+
+unfoldable pub code_numbered : ℕ → Code
+code_numbered n = slice_index_or NUMBERED n PASSES
+
+pub code_back : (k : Code) → code_numbered (code_number k) ≡ k
+unfolding code_numbered
+code_back (Ok u) = refl
+code_back (Err FileSize) = refl
+code_back (Err Machine) = refl
+code_back (Err SectionTable) = refl
+code_back (Err SymbolTable) = refl
+code_back (Err SectionData) = refl
+code_back (Err Name) = refl
+code_back (Err SectionNumber) = refl
+code_back (Err Pages) = refl
+code_back (Err Externs) = refl
+code_back (Err Target) = refl
+code_back (Err Place) = refl
+code_back (Err Base) = refl
+code_back (Err Storage) = refl
+code_back (Err Position) = refl
+code_back (Err NotMapped) = refl
+code_back (Err NotOnAPage) = refl
+code_back (Err NotWholePages) = refl
+code_back (Err TooLong) = refl
+code_back (Err NoSection) = refl
+code_back (Err NoEntry) = refl
+code_back (Err NoRoutine) = refl
+code_back (Err RawData) = refl
+code_back (Err Overlap) = refl
 
 -- the answer of an operation that hands out a value
 unfoldable pub answer_of : {A : Type 0} → Code → A → Result A Refusal

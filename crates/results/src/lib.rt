@@ -28,17 +28,11 @@ pub fn write_counts(c: Counts, b: &mut [u8])
     words::put(b, 0, &ws);
 }
 
-fn flag(done: bool) -> u64
-    ensures { result ≡ pick done 1 0 }
-{
-    if done { 1 } else { 0 }
-}
-
 // Where a portion ended, and whether the list did: two words.
 pub fn write_progress(position: u64, done: bool, b: &mut [u8])
     ensures { b.new ≡ splice b.old 0 (word_bytes (progress_words position done)) }
 {
-    let ws = [position, flag(done)];
+    let ws = [position, u64::from(done)];
     words::put(b, 0, &ws);
 }
 

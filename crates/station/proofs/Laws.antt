@@ -1,19 +1,19 @@
 -- The ways through the code. Assumes nothing.
 use Rattle.refusal.specs.declared.Refusal.{Refusal}
-use Rattle.refusal.specs.Refusal.{Code}
+use Rattle.refusal.specs.declared.Refusal.TheVariants.{Storage}
 use Rattle.std.specs.Prelude.{Ok, Err, Result}
 use mathlib.Core.Path.{◌≡◌, refl, sym, ap, subst, ◌∙◌}
 use mathlib.Core.Bool.{Bool, true, false}
 use mathlib.Core.List.{List, [], ◌∷◌, ◌++◌}
 use mathlib.Core.Logic.{⊎_elim}
-use Prim.Native.Nat.{ℕ, zero, suc}
-use lib.Dec.{leb, eqb}
+use Prim.Native.Nat.{ℕ}
+use lib.Dec.{leb}
 use lib.ListN.{length}
 use Rattle.util.specs.Pick.{pick, yes_no}
 use Rattle.arch.specs.Address.{va}
 use Rattle.words.specs.Words.{word_bytes}
 use Rattle.le.specs.Le.{splice}
-use Rattle.refusal.specs.Refusal.{BASE, STORAGE, POSITION, unless_refused, Leaves}
+use Rattle.refusal.specs.Refusal.{Code, PASSES, BASE, STORAGE, POSITION, code_number, answer_of, unless_refused, Leaves}
 use Rattle.object.specs.Format.{header_of}
 use Rattle.checks.specs.Checks.{base_ok}
 use Rattle.survey.specs.declared.answer.Counts.{Counts}
@@ -22,50 +22,40 @@ use Rattle.results.specs.Results.{COUNTS_BYTES, counts_words, PROGRESS_BYTES, pr
 use Rattle.nearest.specs.declared.Routine.{Routine}
 use Rattle.module.specs.Routine.{table_sections, routine}
 use Rattle.storage.specs.Storage.{Storage, stored}
-use Rattle.loading.specs.Load.{room_ok, load_checks, load_answer, Loads}
+use Rattle.loading.specs.Load.{room_ok, load_checks, Loads}
 use Rattle.patch.specs.declared.answer.Progress.{Progress}
 use Rattle.patch.specs.Fixes.{fix_count}
-use Rattle.patch.specs.Patch.{patch_code, answer_of, Patches}
-use Rattle.station.specs.Station.{code_with, patch_code_with, told_in, Told, ToldBoth, Surveyed, Loaded, Patched, routine_code, nearest_words, Traced, answer_code, as_survey, survey_code, counts_in, CountsTold, untold, unstored_code, unlaid_code, untold_patch_code, patch_answer_code, progress_in, ProgressTold, RoutineTold}
-use Rattle.station.specs.StationLaws.{not_zero, room_same, short_kept, patch_room, patch_short, untold_kept}
+use Rattle.patch.specs.Patch.{patch_code, Patches}
+use Rattle.station.specs.Station.{code_with, patch_code_with, told_in, Told, ToldBoth, Surveyed, Loaded, Patched, routine_code, nearest_words, Traced, survey_code, counts_in, CountsTold, untold, unstored_code, unlaid_code, untold_patch_code, progress_in, ProgressTold, RoutineTold}
+use Rattle.station.specs.StationLaws.{room_same, short_kept, patch_room, patch_short, untold_kept}
 
 -- ---- an answer, told
 module _ (a : Result Counts Refusal) (c : Counts) (out : List ℕ) where
-  pub counts_accepted : (out' : List ℕ) → a ≡ Ok c → leb COUNTS_BYTES (length out) ≡ true → out' ≡ told_in out (counts_words c) → CountsTold a out out' 0
+  pub counts_accepted : (out' : List ℕ) → a ≡ Ok c → leb COUNTS_BYTES (length out) ≡ true → out' ≡ told_in out (counts_words c) → CountsTold a out out' (Ok tt)
   unfolding survey_code counts_in pick
   counts_accepted out' e t d = rw e (record { says = rw t; result = rw t d })
 
-  pub counts_short : a ≡ Ok c → leb COUNTS_BYTES (length out) ≡ false → CountsTold a out out STORAGE
+  pub counts_short : a ≡ Ok c → leb COUNTS_BYTES (length out) ≡ false → CountsTold a out out (Err Storage)
   unfolding survey_code counts_in pick
   counts_short e t = rw e (record { says = rw t; result = rw t })
 
-pub counts_refused : (a : Result Counts Refusal) (n : ℕ) (out : List ℕ) → a ≡ Err n → CountsTold a out out n
+pub counts_refused : (a : Result Counts Refusal) (r : Refusal) (out : List ℕ) → a ≡ Err r → CountsTold a out out (Err r)
 unfolding survey_code counts_in
-counts_refused a n out e = rw e (record { says = refl; result = refl })
+counts_refused a r out e = rw e (record { says = refl; result = refl })
 
 pub ruleset counting = (counts_accepted, counts_short, counts_refused)
-
-pub counted_loaded : (a : Result Counts Refusal) (c : Counts) → a ≡ Ok c → Ok c ≡ as_survey a
-unfolding as_survey
-counted_loaded a c e = rw e
-
-pub counted_refused : (a : Result Counts Refusal) (n : ℕ) → a ≡ Err n → Err n ≡ as_survey a
-unfolding as_survey
-counted_refused a n e = rw e
-
-pub ruleset loading = (counted_loaded, counted_refused)
 
 pub untold_accepted : (f : List ℕ) (a : Result Counts Refusal) (c : Counts) → a ≡ survey_of f → a ≡ Ok c → STORAGE ≡ unstored_code f
 unfolding untold
 untold_accepted f a c q e = rw (← q, e)
 
-pub untold_refused : (f : List ℕ) (a : Result Counts Refusal) (n : ℕ) → a ≡ survey_of f → a ≡ Err n → n ≡ unstored_code f
+pub untold_refused : (f : List ℕ) (a : Result Counts Refusal) (r : Refusal) → a ≡ survey_of f → a ≡ Err r → Err r ≡ unstored_code f
 unfolding untold
-untold_refused f a n q e = rw (← q, e)
+untold_refused f a r q e = rw (← q, e)
 
 pub ruleset withholding = (untold_accepted, untold_refused)
 
-module _ (f : List ℕ) (base r : ℕ) {ok : Bool} where
+module _ (f : List ℕ) (base : ℕ) (r : Code) {ok : Bool} where
   pub unlaid_base : ok ≡ base_ok base → ok ≡ false → BASE ≡ unlaid_code f base
   unfolding pick
   unlaid_base q e = rw (← q, e)
@@ -88,76 +78,47 @@ module _ (fixes : List ℕ) (position n : ℕ) where
 pub ruleset unpatched = (untold_position, untold_progress)
 
 pub progress_applied : (a : Result Progress Refusal) (p : Progress) (out out' : List ℕ) → a ≡ Ok p → out' ≡ told_in out (progress_words p.position p.done)
-    → ProgressTold a out out' 0
-unfolding patch_answer_code progress_in
+    → ProgressTold a out out' (Ok tt)
+unfolding progress_in
 progress_applied a p out out' e d = rw e (record { says = refl; result = d })
 
-pub progress_refused : (a : Result Progress Refusal) (n : ℕ) (out : List ℕ) → a ≡ Err n → ProgressTold a out out n
-unfolding patch_answer_code progress_in
-progress_refused a n out e = rw e (record { says = refl; result = refl })
+pub progress_refused : (a : Result Progress Refusal) (r : Refusal) (out : List ℕ) → a ≡ Err r → ProgressTold a out out (Err r)
+unfolding progress_in
+progress_refused a r out e = rw e (record { says = refl; result = refl })
 
 pub ruleset progressing = (progress_applied, progress_refused)
 
-pub answer_done : (a : Code) → a ≡ (Ok tt) → 0 ≡ answer_code a
-unfolding answer_code
-answer_done a e = rw e
-
-pub answer_refused : (a : Code) (n : ℕ) → a ≡ Err n → n ≡ answer_code a
-unfolding answer_code
-answer_refused a n e = rw e
-
-pub ruleset answering = (answer_done, answer_refused)
-
 -- ---- the code of an answer that a code gives is that code
-by_refusal : (k : ℕ) (c : Counts) → answer_by (suc k) c ≡ Err (suc k)
-unfolding answer_by pick
-by_refusal k c = rw (not_zero k)
-
-pick_kept : {A : Type 0} (b : Bool) (new old : A) → pick b new old ≡ unless_refused (pick b 0 STORAGE) new old
+pick_kept : {A : Type 0} (b : Bool) (new old : A) → pick b new old ≡ unless_refused (pick b PASSES STORAGE) new old
 unfolding pick unless_refused
 pick_kept true new old = refl
 pick_kept false new old = refl
 
-counts_by_lem : (code : ℕ) (c : Counts) (a : Result Counts Refusal) (out out' : List ℕ) (r : ℕ) → a ≡ answer_by code c → CountsTold a out out' r
-    → Told (code_with COUNTS_BYTES out code) (told_in out (counts_words c)) out out' r
-unfolding answer_by pick survey_code counts_in unless_refused code_with
-counts_by_lem zero c a out out' r e t =
+counts_by_lem : (code : Code) (c : Counts) (a : Result Counts Refusal) (out out' : List ℕ) (r : Code) → a ≡ answer_by code c → CountsTold a out out' r
+    → Told (code_with COUNTS_BYTES out code) (told_in out (counts_words c)) out out' (code_number r)
+unfolding answer_of survey_code counts_in unless_refused code_with
+counts_by_lem (Ok v) c a out out' r e t =
     let u : CountsTold (Ok c) out out' r = subst (λ (x : Result Counts Refusal). CountsTold x out out' r) e t in
-    record { says = u.says; leaves = u.result ∙ pick_kept (leb COUNTS_BYTES (length out)) _ out }
-counts_by_lem (suc k) c a out out' r e t =
-    let u : CountsTold (Err (suc k)) out out' r = subst (λ (x : Result Counts Refusal). CountsTold x out out' r) (e ∙ by_refusal k c) t in
-    record { says = u.says; leaves = u.result }
+    record { says = ap code_number u.says; leaves = u.result ∙ pick_kept (leb COUNTS_BYTES (length out)) _ out }
+counts_by_lem (Err k) c a out out' r e t =
+    let u : CountsTold (Err k) out out' r = subst (λ (x : Result Counts Refusal). CountsTold x out out' r) e t in
+    record { says = ap code_number u.says; leaves = u.result }
 
-counted_by : (code : ℕ) (c : Counts) → as_survey (load_answer code c) ≡ answer_by code c
-unfolding load_answer answer_by pick as_survey
-counted_by zero c = refl
-counted_by (suc k) c = rw (not_zero k)
-
-progress_by : (code : ℕ) (p : Progress) (a : Result Progress Refusal) (out out' : List ℕ) (r : ℕ) → a ≡ answer_of code p → ProgressTold a out out' r
-    → Told code (told_in out (progress_words p.position p.done)) out out' r
-unfolding answer_of patch_answer_code progress_in unless_refused
-progress_by zero p a out out' r e t =
+progress_by : (code : Code) (p : Progress) (a : Result Progress Refusal) (out out' : List ℕ) (r : Code) → a ≡ answer_of code p → ProgressTold a out out' r
+    → Told code (told_in out (progress_words p.position p.done)) out out' (code_number r)
+unfolding answer_of progress_in unless_refused
+progress_by (Ok v) p a out out' r e t =
     let u : ProgressTold (Ok p) out out' r = subst (λ (x : Result Progress Refusal). ProgressTold x out out' r) e t in
-    record { says = u.says; leaves = u.result }
-progress_by (suc k) p a out out' r e t =
-    let u : ProgressTold (Err (suc k)) out out' r = subst (λ (x : Result Progress Refusal). ProgressTold x out out' r) e t in
-    record { says = u.says; leaves = u.result }
-
-answer_by_lem : (code : ℕ) (a : Code) → a ≡ code → answer_code a ≡ code
-unfolding answer_code
-answer_by_lem zero a e = rw e
-answer_by_lem (suc k) a e = rw e
-
-stored_by_lem : {A : Type 0} (code : ℕ) (new old x : A) → x ≡ pick (eqb code 0) new old → x ≡ unless_refused code new old
-unfolding pick unless_refused
-stored_by_lem zero new old x e = e
-stored_by_lem (suc k) new old x e = rw (not_zero k) at e
+    record { says = ap code_number u.says; leaves = u.result }
+progress_by (Err k) p a out out' r e t =
+    let u : ProgressTold (Err k) out out' r = subst (λ (x : Result Progress Refusal). ProgressTold x out out' r) e t in
+    record { says = ap code_number u.says; leaves = u.result }
 
 -- ---- without room for the counts load's order is 12, 1 to 11, 13
-untold_by : (n : ℕ) (out : List ℕ) (code : ℕ) (c : Counts) → leb n (length out) ≡ false → code_with n out code ≡ untold (answer_by code c)
-unfolding code_with pick untold answer_by
-untold_by n out zero c e = rw e
-untold_by n out (suc k) c e = rw (not_zero k)
+untold_by : (n : ℕ) (out : List ℕ) (code : Code) (c : Counts) → leb n (length out) ≡ false → code_with n out code ≡ untold (answer_by code c)
+unfolding code_with pick untold answer_of
+untold_by n out (Ok u) c e = rw e
+untold_by n out (Err r) c e = refl
 
 -- a last check by 13 does not matter there
 short_last : (n : ℕ) (out : List ℕ) (xs : List Check) (ok : Bool) → leb n (length out) ≡ false
@@ -177,86 +138,92 @@ unlaid_by f base s out e =
     (λ t. rw t)
     (yes_no (base_ok base))
 
-both_by : {A B : Type 0} (code code' : ℕ) → code ≡ code' → (new old x : A) (new₂ old₂ x₂ : B) (r : ℕ) → x ≡ unless_refused code new old → Told code new₂ old₂ x₂ r → ToldBoth code' new old x new₂ old₂ x₂ r
+both_by : {A B : Type 0} (code code' : Code) → code ≡ code' → (new old x : A) (new₂ old₂ x₂ : B) (r : ℕ) → x ≡ unless_refused code new old → Told code new₂ old₂ x₂ r → ToldBoth code' new old x new₂ old₂ x₂ r
 both_by {A} {B} code code' e new old x new₂ old₂ x₂ r q t =
-    subst (λ (k : ℕ). ToldBoth k new old x new₂ old₂ x₂ r) e (record { says = t.says; leaves = q; leaves₂ = t.leaves })
+    subst (λ (k : Code). ToldBoth k new old x new₂ old₂ x₂ r) e (record { says = t.says; leaves = q; leaves₂ = t.leaves })
 
 -- ---- the four operations
-pub survey_told : (f out out' : List ℕ) (a : Result Counts Refusal) (r : ℕ) → a ≡ survey_of f → CountsTold a out out' r → Surveyed f out out' r
-survey_told f out out' a r q t = counts_by_lem (first_failed (checks f (header_of f))) (counts f (header_of f)) a out out' r q t
+pub survey_told : (f out out' : List ℕ) (a : Result Counts Refusal) (r : Code) (n : ℕ) → a ≡ survey_of f → CountsTold a out out' r → n ≡ code_number r → Surveyed f out out' n
+survey_told f out out' a r n q t m = rw (← m)
+    (counts_by_lem (first_failed (checks f (header_of f))) (counts f (header_of f)) a out out' r q t)
 
 module _ (f : List ℕ) (base : ℕ) (s : Storage) (out : List ℕ) where
-  abbrev code : ℕ
+  abbrev code : Code
   code = first_failed (load_checks f (header_of f) base s)
 
   abbrev new : Storage
   new = stored f (header_of f) base s
 
-  pub load_told : (s' : Storage) (out' : List ℕ) (a : Result Counts Refusal) (b : Result Counts Refusal) (r : ℕ) → leb COUNTS_BYTES (length out) ≡ true → Loads f base s s' a → b ≡ as_survey a → CountsTold b out out' r
-      → Loaded f base s s' out out' r
-  load_told s' out' a b r e q w t =
-      let u : Told (code_with COUNTS_BYTES out code) (told_in out (counts_words (counts f (header_of f)))) out out' r =
-      counts_by_lem code (counts f (header_of f)) b out out' r (w ∙ ap as_survey q.says ∙ counted_by code (counts f (header_of f))) t
+  pub load_told : (s' : Storage) (out' : List ℕ) (a : Result Counts Refusal) (r : Code) (n : ℕ) → leb COUNTS_BYTES (length out) ≡ true → Loads f base s s' a → CountsTold a out out' r
+      → n ≡ code_number r → Loaded f base s s' out out' n
+  load_told s' out' a r n e q t m =
+      let u : Told (code_with COUNTS_BYTES out code) (told_in out (counts_words (counts f (header_of f)))) out out' (code_number r) =
+      counts_by_lem code (counts f (header_of f)) a out out' r q.says t
       in
       record {
-        says = u.says;
-        leaves = stored_by_lem code new s s' q.leaves ∙ ap (λ (k : ℕ). unless_refused k new s) (sym (room_same COUNTS_BYTES out code e));
+        says = m ∙ u.says;
+        leaves = q.leaves ∙ ap (λ (k : Code). unless_refused k new s) (sym (room_same COUNTS_BYTES out code e));
         leaves₂ = u.leaves;
       }
 
-  pub load_short : (r : ℕ) → leb COUNTS_BYTES (length out) ≡ false → r ≡ unlaid_code f base → Loaded f base s s out out r
-  load_short r e q =
+  pub load_short : (k : Code) (n : ℕ) → leb COUNTS_BYTES (length out) ≡ false → k ≡ unlaid_code f base → n ≡ code_number k → Loaded f base s s out out n
+  load_short k n e q m =
       record {
-        says = q ∙ unlaid_by f base s out e;
+        says = m ∙ ap code_number (q ∙ unlaid_by f base s out e);
         leaves = short_kept COUNTS_BYTES out code new s e;
         leaves₂ = short_kept COUNTS_BYTES out code _ out e;
       }
 
 module _ (base : ℕ) (marks fixes : List ℕ) (number position : ℕ) (image out : List ℕ) where
-  abbrev own : ℕ
+  abbrev own : Code
   own = patch_code (length image) marks base fixes number position
 
-  pub patch_told : (image' out' : List ℕ) (a : Result Progress Refusal) (r : ℕ) → leb PROGRESS_BYTES (length out) ≡ true
-      → Patches base marks fixes number position image image' a → ProgressTold a out out' r → Patched base marks fixes number position image image' out out' r
-  patch_told image' out' a r e q t =
-      let same : own ≡ patch_code_with (length image) marks base fixes number position out = sym (patch_room (length image) marks base fixes number position out e) in
-      both_by own _ same _ image image' _ out out' r q.leaves (progress_by own _ a out out' r q.says t)
+  pub patch_told : (image' out' : List ℕ) (a : Result Progress Refusal) (r : Code) (n : ℕ) → leb PROGRESS_BYTES (length out) ≡ true
+      → Patches base marks fixes number position image image' a → ProgressTold a out out' r → n ≡ code_number r → Patched base marks fixes number position image image' out out' n
+  patch_told image' out' a r n e q t m = rw (← m)
+      (let same : own ≡ patch_code_with (length image) marks base fixes number position out = sym (patch_room (length image) marks base fixes number position out e) in
+      both_by own _ same _ image image' _ out out' _ q.leaves (progress_by own _ a out out' r q.says t))
 
-  pub patch_untold : (r : ℕ) → leb PROGRESS_BYTES (length out) ≡ false → r ≡ untold_patch_code fixes position → Patched base marks fixes number position image image out out r
-  patch_untold r e q =
-      let same : untold_patch_code fixes position ≡ patch_code_with (length image) marks base fixes number position out = sym (patch_short (length image) marks base fixes number position out e) in
-      both_by (untold_patch_code fixes position) _ same _ image image _ out out r (untold_kept fixes position _ image) (record { says = q; leaves = untold_kept fixes position _ out })
+  pub patch_untold : (k : Code) (n : ℕ) → leb PROGRESS_BYTES (length out) ≡ false → k ≡ untold_patch_code fixes position → n ≡ code_number k → Patched base marks fixes number position image image out out n
+  patch_untold k n e q m = rw (← m)
+      (let same : untold_patch_code fixes position ≡ patch_code_with (length image) marks base fixes number position out = sym (patch_short (length image) marks base fixes number position out e) in
+      both_by (untold_patch_code fixes position) _ same _ image image _ out out _ (untold_kept fixes position _ image) (record { says = ap code_number q; leaves = untold_kept fixes position _ out }))
 
-pub read_told : (code : ℕ) (out new out' : List ℕ) (a : Code) (r : ℕ) → Leaves code out new out' a → r ≡ answer_code a → Told code new out out' r
-read_told code out new out' a r q e = record { says = e ∙ answer_by_lem code a q.says; leaves = q.leaves }
+pub read_told : (code : Code) (out new out' : List ℕ) (a : Code) (r : ℕ) → Leaves code out new out' a → r ≡ code_number a → Told code new out out' r
+read_told code out new out' a r q e = record { says = e ∙ ap code_number q.says; leaves = q.leaves }
 
 -- ---- the routine of an address
 none_told : (out : List ℕ) → told_in out [] ≡ out
 unfolding word_bytes splice
 none_told out = refl
 
-pub routine_found : (a : Result Routine Refusal) (p : Routine) (out out' : List ℕ) → a ≡ Ok p → out' ≡ told_in out (routine_words p.symbol p.distance) → RoutineTold a out out' 0
-unfolding routine_code nearest_words
+pub routine_found : (a : Result Routine Refusal) (p : Routine) (out out' : List ℕ) → a ≡ Ok p → out' ≡ told_in out (routine_words p.symbol p.distance) → RoutineTold a out out' (Ok tt)
+unfolding nearest_words
 routine_found a p out out' e d = rw e (record { says = refl; result = d })
 
-pub routine_refused : (a : Result Routine Refusal) (n : ℕ) (out : List ℕ) → a ≡ Err n → RoutineTold a out out n
-unfolding routine_code nearest_words
-routine_refused a n out e = rw e (record { says = refl; result = sym (none_told out) })
+pub routine_refused : (a : Result Routine Refusal) (k : Refusal) (out : List ℕ) → a ≡ Err k → RoutineTold a out out (Err k)
+unfolding nearest_words
+routine_refused a k out e = rw e (record { says = refl; result = sym (none_told out) })
 
 pub ruleset tracing = (routine_found, routine_refused)
 
-routine_by : (a : Result Routine Refusal) (out out' : List ℕ) (r : ℕ) → RoutineTold a out out' r → Told (routine_code a) (told_in out (nearest_words a)) out out' r
-unfolding routine_code nearest_words unless_refused
-routine_by (Ok p) out out' r t = record { says = t.says; leaves = t.result }
-routine_by (Err zero) out out' r t = record { says = t.says; leaves = t.result }
-routine_by (Err (suc k)) out out' r t = record { says = t.says; leaves = t.result ∙ none_told out }
+routine_by : (a : Result Routine Refusal) (out out' : List ℕ) (r : Code) → RoutineTold a out out' r → Told (routine_code a) (told_in out (nearest_words a)) out out' (code_number r)
+unfolding nearest_words unless_refused
+routine_by (Ok p) out out' r t = record { says = ap code_number t.says; leaves = t.result }
+routine_by (Err k) out out' r t = record { says = ap code_number t.says; leaves = t.result ∙ none_told out }
 
 module _ (sections symbols : List ℕ) (address : ℕ) (out : List ℕ) where
-  pub routine_told : (a : Result Routine Refusal) (out' : List ℕ) (r : ℕ) → leb ROUTINE_BYTES (length out) ≡ true → a ≡ routine (table_sections sections) symbols (va address) → RoutineTold a out out' r
-      → Traced sections symbols address out out' r
+  pub routine_told : (a : Result Routine Refusal) (out' : List ℕ) (r : Code) (n : ℕ) → leb ROUTINE_BYTES (length out) ≡ true → a ≡ routine (table_sections sections) symbols (va address) → RoutineTold a out out' r
+      → n ≡ code_number r → Traced sections symbols address out out' n
   unfolding pick
-  routine_told a out' r e q t = rw (e, ← q) (routine_by a out out' r t)
+  routine_told a out' r n e q t m = rw (m, e, ← q) (routine_by a out out' r t)
 
-  pub routine_untold : leb ROUTINE_BYTES (length out) ≡ false → Traced sections symbols address out out STORAGE
+  pub routine_untold : leb ROUTINE_BYTES (length out) ≡ false → Traced sections symbols address out out 13
   unfolding pick unless_refused
   routine_untold e = rw e (record { says = refl; leaves = refl })
+
+pub ruleset loads_told = (load_told, load_short)
+
+pub ruleset patches_told = (patch_told, patch_untold)
+
+pub ruleset routines_told = (routine_told, routine_untold)

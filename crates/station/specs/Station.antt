@@ -3,11 +3,11 @@ use Rattle.nearest.specs.declared.Routine.{Routine}
 use Rattle.patch.specs.declared.answer.Progress.{Progress}
 use Rattle.survey.specs.declared.answer.Counts.{Counts}
 use Rattle.refusal.specs.declared.Refusal.{Refusal}
-use Rattle.std.specs.Prelude.{◌≡◌, List, [], ℕ, zero, suc, ◌+◌, ◌-◌, leb, eqb, length, Ok, Err, Result}
+use Rattle.std.specs.Prelude.{◌≡◌, List, [], ℕ, ◌+◌, ◌-◌, leb, eqb, length, Ok, Err, Result}
 use Rattle.util.specs.Pick.{pick}
 use Rattle.le.specs.Le.{splice, part}
 use Rattle.arch.specs.Address.{va}
-use Rattle.refusal.specs.Refusal.{Code, PASSES, BASE, STORAGE, POSITION, code_number, unless_refused}
+use Rattle.refusal.specs.Refusal.{Code, PASSES, BASE, STORAGE, POSITION, code_number, code_of, unless_refused}
 use Rattle.object.specs.Format.{header_of}
 use Rattle.checks.specs.Checks.{base_ok}
 use Rattle.survey.specs.Survey.{first_failed, checks, counts, survey_of}
@@ -86,9 +86,8 @@ Read base image marks address out out' r =
     Told (read_code_at (length image) marks base address (length out)) (part image (address - base) (length out)) out out' r
 
 -- the refusal of the question for an address's routine, if there is one
-unfoldable pub routine_code : Result Routine Refusal → Code
-routine_code (Ok a) = PASSES
-routine_code (Err r) = Err r
+abbrev pub routine_code : Result Routine Refusal → Code
+routine_code = code_of
 
 -- its two words; of a refusal there are none
 unfoldable pub nearest_words : Result Routine Refusal → List ℕ
@@ -117,8 +116,8 @@ counts_in (Ok c) out = pick (leb COUNTS_BYTES (length out)) (told_in out (counts
 counts_in (Err r) out = out
 
 -- what the host is told of a survey's or a load's answer
-pub record CountsTold (answer : Result Counts Refusal) (out out' : List ℕ) (r : ℕ) : Type 0 where
-  pub says : r ≡ code_number (survey_code answer out)
+pub record CountsTold (answer : Result Counts Refusal) (out out' : List ℕ) (r : Code) : Type 0 where
+  pub says : r ≡ survey_code answer out
   pub result : out' ≡ counts_in answer out
 
 -- ---- load without room for its counts
@@ -145,11 +144,11 @@ progress_in (Ok p) out = told_in out (progress_words p.position p.done)
 progress_in (Err r) out = out
 
 -- what the host is told of a patch's answer
-pub record ProgressTold (answer : Result Progress Refusal) (out out' : List ℕ) (r : ℕ) : Type 0 where
-  pub says : r ≡ code_number answer
+pub record ProgressTold (answer : Result Progress Refusal) (out out' : List ℕ) (r : Code) : Type 0 where
+  pub says : r ≡ code_of answer
   pub result : out' ≡ progress_in answer out
 
 -- what the host is told of a routine's answer
-pub record RoutineTold (answer : Result Routine Refusal) (out out' : List ℕ) (r : ℕ) : Type 0 where
-  pub says : r ≡ code_number answer
+pub record RoutineTold (answer : Result Routine Refusal) (out out' : List ℕ) (r : Code) : Type 0 where
+  pub says : r ≡ code_of answer
   pub result : out' ≡ told_in out (nearest_words answer)

@@ -4,13 +4,12 @@
 #![tactic(auto)]
 
 ghost use Rattle.std.specs.Prelude.{◌≡◌};
+ghost use Rattle.refusal.specs.Refusal.{code_number};
 ghost use Rattle.storage.specs.Storage.{storage};
 ghost use Rattle.station.specs.Station.{
-  as_survey,
   CountsTold,
   ProgressTold,
   RoutineTold,
-  answer_code,
   unstored_code,
   unlaid_code,
   untold_patch_code,
@@ -22,11 +21,10 @@ ghost use Rattle.station.specs.Station.{
 };
 
 use arch::VA;
-use load::Load;
-use nearest::RoutineAnswer;
-use patch::Patch;
+use nearest::Routine;
+use patch::Progress;
 use refusal::Refusal;
-use survey::Survey;
+use survey::Counts;
 
 // The ten words of survey's and load's counts.
 pub const COUNTS_BYTES: usize = 80;
@@ -37,108 +35,88 @@ pub const PROGRESS_BYTES: usize = 16;
 // The two words of the routine that an address is in: the symbol's number in the list, and the distance.
 pub const ROUTINE_BYTES: usize = 16;
 
-fn tell_counts(answer: Result<Counts, Refusal>, out: &mut [u8]) -> u64
+// 0, or the number of the refusal.
+fn code<T: Copy>(answer: Result<T, Refusal>) -> u64
+    ensures { result ≡ code_number answer }
+{
+    match answer {
+        Ok(_) => 0,
+        Err(r) => r.number(),
+    }
+}
+
+#[tactic(auto, using(crate::proofs::Laws::counting))]
+fn tell_counts(answer: Result<Counts, Refusal>, out: &mut [u8]) -> Result<(), Refusal>
     ensures { CountsTold answer out.old out.new result }
 {
-    match answer {
-        Ok(c) => {
-            let room = COUNTS_BYTES <= out.len();
-            if room {
-                results::write_counts(c, out);
-                0
-            } else {
-                Refusal::Storage
-            }
-        }
-        Err(n) => n,
+    let counts = answer?;
+    if out.len() < COUNTS_BYTES {
+        return Err(Refusal::Storage);
     }
+    results::write_counts(counts, out);
+    Ok(())
 }
 
-// Load's counts are told as survey's.
-fn as_survey(answer: Result<Counts, Refusal>) -> Result<Counts, Refusal>
-    ensures { result ≡ as_survey answer }
-{
-    match answer {
-        Ok(c) => Ok(c),
-        Err(n) => Err(n),
-    }
-}
-
-fn tell_progress(answer: Result<Progress, Refusal>, out: &mut [u8]) -> u64
+#[tactic(auto, using(crate::proofs::Laws::progressing))]
+fn tell_progress(answer: Result<Progress, Refusal>, out: &mut [u8]) -> Result<(), Refusal>
     ensures { ProgressTold answer out.old out.new result }
 {
-    match answer {
-        Ok(p) => {
-            results::write_progress(p.position, p.done, out);
-            0
-        }
-        Err(n) => n,
-    }
+    let progress = answer?;
+    results::write_progress(progress.position, progress.done, out);
+    Ok(())
 }
 
-fn tell_routine(answer: Result<Routine, Refusal>, out: &mut [u8]) -> u64
+#[tactic(auto, using(crate::proofs::Laws::tracing))]
+fn tell_routine(answer: Result<Routine, Refusal>, out: &mut [u8]) -> Result<(), Refusal>
     ensures { RoutineTold answer out.old out.new result }
 {
-    match answer {
-        Ok(a) => {
-            results::write_routine(a.symbol, a.distance, out);
-            0
-        }
-        RoutineErr(n) => n,
-    }
-}
-
-fn answer_code(answer: Result<(), Refusal>) -> u64
-    ensures { result ≡ answer_code answer }
-{
-    match answer {
-        Ok(()) => 0,
-        Err(n) => n,
-    }
+    let routine = answer?;
+    results::write_routine(routine.symbol, routine.distance, out);
+    Ok(())
 }
 
 // The counts of a file: 80 bytes.
+#[tactic(auto, using(crate::proofs::Laws::survey_told))]
 pub fn nelgrauf_survey(file: &[u8], counts: &mut [u8]) -> u64
     ensures { Surveyed file.now counts.old counts.new result }
 {
-    tell_counts(survey::survey(file), counts)
+    code(tell_counts(survey::survey(file), counts))
 }
 
-// 1 to 11, then 13.
-fn unstored_code(file: &[u8]) -> u64
+// What load is refused by behind its base where its counts have no room: 1 to 11, then 13.
+#[tactic(auto, using(crate::proofs::Laws::withholding))]
+fn unstored(file: &[u8]) -> Result<(), Refusal>
     ensures { result ≡ unstored_code file.now }
 {
-    match survey::survey(file) {
-        Ok(_) => Refusal::Storage,
-        Err(code) => code,
-    }
+    survey::survey(file)?;
+    Err(Refusal::Storage)
 }
 
-// What load is refused by where its counts have no room: 12, 1 to 11, then 13.
-fn unlaid_code(file: &[u8], base: VA) -> u64
+// The same from its base on: 12, 1 to 11, then 13.
+#[tactic(auto, using(crate::proofs::Laws::unlaid))]
+fn unlaid(file: &[u8], base: VA) -> Result<(), Refusal>
     ensures { result ≡ unlaid_code file.now base.0 }
 {
-    let ok = checks::base_ok(base);
-    if ok {
-        unstored_code(file)
-    } else {
-        Refusal::Base
+    if !checks::base_ok(base) {
+        return Err(Refusal::Base);
     }
+    unstored(file)
 }
 
 // What patch is refused by where its progress has no room: 14, then 13.
-fn untold_patch_code(fixups: &[u8], position: u64) -> u64
+#[tactic(auto, using(crate::proofs::Laws::unpatched))]
+fn unpatched(fixups: &[u8], position: u64) -> Result<(), Refusal>
     ensures { result ≡ untold_patch_code fixups.now position }
 {
-    let ok = position <= patch::fix_count(fixups);
-    if ok {
-        Refusal::Storage
+    if position <= patch::fix_count(fixups) {
+        Err(Refusal::Storage)
     } else {
-        Refusal::Position
+        Err(Refusal::Position)
     }
 }
 
 // Tables, marks and image of a file at a base, and its counts.
+#[tactic(auto, using(crate::proofs::Laws::loads_told))]
 pub fn nelgrauf_load(
     file: &[u8],
     base: u64,
@@ -156,8 +134,7 @@ pub fn nelgrauf_load(
         (storage image.new marks.new sections.new symbols.new externs.new fixups.new skips.new)
         counts.old counts.new result }
 {
-    let room = COUNTS_BYTES <= counts.len();
-    if room {
+    if COUNTS_BYTES <= counts.len() {
         let answer = load::load(
             file,
             VA(base),
@@ -169,13 +146,14 @@ pub fn nelgrauf_load(
             fixups,
             skips,
         );
-        tell_counts(as_survey(answer), counts)
+        code(tell_counts(answer, counts))
     } else {
-        unlaid_code(file, VA(base))
+        code(unlaid(file, VA(base)))
     }
 }
 
 // `number` fixups of the list from `position` on, or all that are left; where that ended and whether the list did: 16 bytes.
+#[tactic(auto, using(crate::proofs::Laws::patches_told))]
 pub fn nelgrauf_patch(
     base: u64,
     image: &mut [u8],
@@ -187,32 +165,35 @@ pub fn nelgrauf_patch(
 ) -> u64
     ensures { Patched base marks.now fixups.now number position image.old image.new progress.old progress.new result }
 {
-    let room = PROGRESS_BYTES <= progress.len();
-    if room {
-        tell_progress(
+    if PROGRESS_BYTES <= progress.len() {
+        code(tell_progress(
             patch::patch(VA(base), image, marks, fixups, number, position),
             progress,
-        )
+        ))
     } else {
-        untold_patch_code(fixups, position)
+        code(unpatched(fixups, position))
     }
 }
 
 // The bytes of the image from an address on, as many as `out` takes.
+#[tactic(auto, using(crate::proofs::Laws::read_told))]
 pub fn nelgrauf_read(base: u64, image: &[u8], marks: &[u8], address: u64, out: &mut [u8]) -> u64
     ensures { Read base image.now marks.now address out.old out.new result }
 {
-    answer_code(aspace::absolute::read_into(image, marks, VA(base), VA(address), out))
+    code(aspace::absolute::read_into(image, marks, VA(base), VA(address), out))
 }
 
 // The listed symbol that an address belongs to, by the two tables as load wrote them: 16 bytes.
+#[tactic(auto, using(crate::proofs::Laws::routines_told))]
 pub fn nelgrauf_routine(sections: &[u8], symbols: &[u8], address: u64, nearest: &mut [u8]) -> u64
     ensures { Traced sections.now symbols.now address nearest.old nearest.new result }
 {
-    let room = ROUTINE_BYTES <= nearest.len();
-    if room {
-        tell_routine(module::routine_in(sections, symbols, VA(address)), nearest)
+    if ROUTINE_BYTES <= nearest.len() {
+        code(tell_routine(
+            module::routine_in(sections, symbols, VA(address)),
+            nearest,
+        ))
     } else {
-        Refusal::Storage
+        code::<()>(Err(Refusal::Storage))
     }
 }

@@ -60,11 +60,9 @@ pub ruleset skip_loop = (skip_begin, skip_found, skip_more, skip_end)
 
 -- ---- the stops of the blocks, one behind another
 module _ (section : Bool) (t : List ℕ) (b s o : ℕ) (is : o ≡ skip t ((b + 1) * BLOCK)) where
-  pub next_same : (x : ℕ) (a r : Bool) → x ≡ get_or t o 0 → a ≡ holds TAIL x → r ≡ (leb o s && not a) → r ≡ true → Serves section t ((b + 1) * BLOCK) s → s ≡ block_stop section t b
-  next_same x a r at-o tail e y p =
-      let q : (leb o s && not a) ≡ true = sym e ∙ y in
-      let l : o ≤ s = leb-true o s (and_left (leb o s) (not a) q) in
-      let n : holds TAIL (get_or t o 0) ≡ false = rw (← at-o, ← tail) (not-true a (and_right (leb o s) (not a) q)) in
+  pub next_same : (x : ℕ) (a : Bool) → x ≡ get_or t o 0 → a ≡ holds TAIL x → o ≤ s → not a ≡ true → Serves section t ((b + 1) * BLOCK) s → s ≡ block_stop section t b
+  next_same x a at-o tail l y p =
+      let n : holds TAIL (get_or t o 0) ≡ false = rw (← at-o, ← tail) (not-true a y) in
       let m : (b + 1) * BLOCK ≤ o = rw is (skip_least t TAILS ((b + 1) * BLOCK)) in
       p.serves o m l n ∙ ap (stop section t) is
 
@@ -89,7 +87,7 @@ module _ (section : Bool) (t : List ℕ) (b s : ℕ) where
   pub stops_again : (l m m' : List ℕ) (x : ℕ) → m ≡ splice l 0 (stop_words section t b) → x ≡ s → s ≡ block_stop section t b → m' ≡ splice m b (x ∷ []) → m' ≡ splice l 0 (stop_words section t (b + 1))
   stops_again l m m' x e q p d = fill_again (block_stop section t) l m m' b x e (q ∙ p) d
 
-pub ruleset Stops-loop = (fill_none, stops_again, fill_end, first_serves, next_serves, next_block, next_fits, splice_long)
+pub ruleset stops_loop = (fill_none, stops_again, fill_end, first_serves, next_serves, next_block, next_fits, splice_long)
 
 -- of the file's string table
 module _ (f t : List ℕ) (h : Header) (n : ℕ) (table : t ≡ strings f h) (said : n ≡ blocks_of (length t)) where
@@ -218,30 +216,3 @@ unfolding slash_name_by
 slash_bad f h stops d e = rw e
 
 pub ruleset name_ways = (symbol_long, symbol_short, slash_long, slash_bad, section_slash, section_short)
-
--- ---- the same as tests
-pub long_test : (f : List ℕ) (h : Header) (stops t : List ℕ) (n k o s : ℕ) (section : Bool) {r : Bool} → n ≡ string_length f h → k ≡ string_table h → t ≡ part f k n → s ≡ stop_by section t stops o → r ≡ may_end t n section o s
-    → r ≡ is_good (long_by f h stops section o)
-long_test f h stops t n k o s section said at table ends says = rw (← said, ← at, ← table, ← ends) (says ∙ sym (good_by_lem (may_end t n section o s) (k + o) (s - o)))
-
-module _ (f : List ℕ) (h : Header) (stops : List ℕ) {r : Bool} where
-  pub symbol_long_test : (j at x o : ℕ) → at ≡ symbol_record_at h j → x ≡ get 4 f at → eqb x 0 ≡ true → o ≡ get 4 f (at + LONG_OFFSET_AT) → r ≡ is_good (long_by f h stops false o) → r ≡ is_good (symbol_name_by f h stops j)
-  symbol_long_test j at x o a e z q p = p ∙ ap is_good (symbol_long f h stops j at x o a e z q refl)
-
-  pub symbol_short_test : (j at x : ℕ) → at ≡ symbol_record_at h j → x ≡ get 4 f at → eqb x 0 ≡ false → r ≡ is_good (field_by f false at) → r ≡ is_good (symbol_name_by f h stops j)
-  symbol_short_test j at x a e z p = p ∙ ap is_good (symbol_short f h stops j at x a e z refl)
-
-  pub slash_long_test : (d : Option ℕ) (o : ℕ) → d ≡ Some o → r ≡ is_good (long_by f h stops true o) → r ≡ is_good (slash_name_by f h stops d)
-  slash_long_test d o e p = p ∙ ap is_good (slash_long f h stops d o e refl)
-
-  pub section_slash_test : (i at b : ℕ) (d : Option ℕ) → at ≡ section_header_at h i → b ≡ get_or f at 0 → eqb b SLASH ≡ true → d ≡ slash_offset f (section_header_at h i) → r ≡ is_good (slash_name_by f h stops d)
-      → r ≡ is_good (section_name_by f h stops i)
-  section_slash_test i at b d a e z q p = p ∙ ap is_good (section_slash f h stops i at b d a e z q refl)
-
-  pub section_short_test : (i at b : ℕ) → at ≡ section_header_at h i → b ≡ get_or f at 0 → eqb b SLASH ≡ false → r ≡ is_good (field_by f true at) → r ≡ is_good (section_name_by f h stops i)
-  section_short_test i at b a e z p = p ∙ ap is_good (section_short f h stops i at b a e z refl)
-
-pub slash_bad_test : (f : List ℕ) (h : Header) (stops : List ℕ) (d : Option ℕ) → d ≡ None → false ≡ is_good (slash_name_by f h stops d)
-slash_bad_test f h stops d e = ap is_good (slash_bad f h stops d e)
-
-pub ruleset name_tests = (symbol_long_test, symbol_short_test, slash_long_test, slash_bad_test, section_slash_test, section_short_test)

@@ -22,6 +22,7 @@ pub const BLOCKS: usize = 256;
 const TAILS: usize = 3;
 
 // The string table's bytes.
+#[tactic(auto, using(crate::proofs::Laws::table))]
 fn strings(f: &[u8], h: Header) -> &[u8]
     ensures result_value { result.now ≡ strings f.now h }
     ensures result_len_bound { length result.now < 2 ^ 32 }
@@ -31,50 +32,43 @@ fn strings(f: &[u8], h: Header) -> &[u8]
 }
 
 // Where the first character of its own may begin behind place i.
+#[tactic(auto, using(crate::proofs::Laws::skip_loop))]
 fn skip(t: &[u8], i: usize) -> usize
     ensures { result ≡ skip t.now i }
 {
-    let e = i + le::room(t.len(), i, TAILS);
-    let mut k = i;
-    while k < e {
+    let end = i + le::room(t.len(), i, TAILS);
+    for k in i..end {
         if !utf8::is_tail(t[k]) {
             return k;
         }
-        k += 1;
     }
-    k
+    end
 }
 
 // The stop of the block behind block b, if s is one that serves it too.
+#[tactic(auto, using(crate::proofs::Laws::next_ways))]
 fn next_stop(t: &[u8], section: bool, b: usize, s: usize) -> usize
     requires { (b < length t.now / BLOCK) × Serves section t.now ((b + 1) * BLOCK) s }
     ensures { result ≡ block_stop section t.now b }
 {
     let o = skip(t, (b + 1) * BLOCK);
-    let tail = utf8::is_tail(le::byte_at(t, o));
-    let same = util::both(o <= s, !tail);
-    if same { s } else { chars::stop(t, o, section) }
-}
-
-// A place of a table, in 32 bits.
-fn narrow(x: usize) -> u32
-    requires { x < 2 ^ 32 }
-    ensures { result ≡ x }
-{
-    x as u32
+    if o <= s && !utf8::is_tail(le::byte_at(t, o)) {
+        s
+    } else {
+        chars::stop(t, o, section)
+    }
 }
 
 // The stops of n blocks behind the first: each byte is looked at once, as a stop that lies further on serves the blocks before it too.
+#[tactic(auto, using(crate::proofs::Laws::stops_loop))]
 fn note_stops(t: &[u8], section: bool, n: usize, stops: &mut [u32])
     requires { (length t.now < 2 ^ 32) × (n ≤ length t.now / BLOCK) }
     ensures { stops.new ≡ splice stops.old 0 (stop_words section t.now n) }
 {
-    let mut s: usize = 0;
-    let mut b: usize = 0;
-    while b < n {
+    let mut s = 0;
+    for b in 0..n {
         s = next_stop(t, section, b, s);
-        le::put_word(stops, b, narrow(s));
-        b += 1;
+        le::put_word(stops, b, s as u32);
     }
 }
 
@@ -82,11 +76,11 @@ fn note_stops(t: &[u8], section: bool, n: usize, stops: &mut [u32])
 fn blocks_of(length: usize) -> usize
     ensures { result ≡ blocks_of length }
 {
-    let n = length / BLOCK;
-    if n < BLOCKS { n } else { BLOCKS }
+    (length / BLOCK).min(BLOCKS)
 }
 
 // The stops of the string table's blocks, and how many there are.
+#[tactic(auto, using(crate::proofs::Laws::filling))]
 pub fn fill_stops(f: &[u8], h: Header, section: bool, stops: &mut [u32]) -> usize
     ensures value { result ≡ stop_count f.now h }
     ensures stops_after { stops.new ≡ splice stops.old 0 (stops_of section f.now h) }
@@ -97,14 +91,8 @@ pub fn fill_stops(f: &[u8], h: Header, section: bool, stops: &mut [u32]) -> usiz
     n
 }
 
-// A noted place.
-fn wide(x: u32) -> usize
-    ensures { result ≡ x }
-{
-    x as usize
-}
-
 // The stop from o by those words.
+#[tactic(auto, using(crate::proofs::Laws::stop_ways))]
 fn stop_by(t: &[u8], section: bool, stops: &[u32], o: usize) -> usize
     ensures { result ≡ stop_by section t.now stops.now o }
 {
@@ -116,46 +104,25 @@ fn stop_by(t: &[u8], section: bool, stops: &[u32], o: usize) -> usize
     if utf8::is_tail(le::byte_at(t, s)) {
         return s;
     }
-    let b = o / BLOCK;
-    if b < stops.len() {
-        wide(stops[b])
-    } else {
-        chars::stop(t, s, section)
+    match stops.get(o / BLOCK) {
+        Some(&noted) => noted as usize,
+        None => chars::stop(t, s, section),
     }
 }
 
 // In a table of `length` bytes a name at o may end at s.
+#[tactic(auto, using(util::specs::Pick::picks), unfolding(crate::specs::Names::may_end))]
 fn may_end(t: &[u8], length: usize, section: bool, o: usize, s: usize) -> bool
     ensures { result ≡ may_end t.now length section o s }
 {
-    util::both(
-        object::LENGTH_SIZE <= o,
-        util::both(
-            s < length,
-            util::both(
-                le::byte_at(t, s) == 0,
-                util::either(o < s, util::both(section, o == s)),
-            ),
-        ),
-    )
-}
-
-// There is a good long name at o.
-fn long_ok(f: &[u8], h: Header, stops: &[u32], section: bool, o: usize) -> bool
-    ensures { result ≡ is_good (long_by f.now h stops.now section o) }
-{
-    let length = object::string_length(f, h);
-    let t = le::part(f, object::string_table(h), length as usize);
-    may_end(
-        t,
-        length as usize,
-        section,
-        o,
-        stop_by(t, section, stops, o),
-    )
+    object::LENGTH_SIZE <= o
+        && s < length
+        && le::byte_at(t, s) == 0
+        && (o < s || (section && o == s))
 }
 
 // The long name at o.
+#[tactic(auto, using(crate::proofs::Laws::long_ways))]
 fn long_name(f: &[u8], h: Header, stops: &[u32], section: bool, o: usize) -> Option<Name>
     ensures { result ≡ long_by f.now h stops.now section o }
 {
@@ -180,21 +147,15 @@ fn field(f: &[u8], at: usize) -> &[u8]
 }
 
 // A name of s bytes may stand in a field.
+#[tactic(auto, using(util::specs::Pick::picks), unfolding(crate::specs::Names::field_ends))]
 fn field_ends(t: &[u8], section: bool, s: usize) -> bool
     ensures { result ≡ field_ends t.now section s }
 {
-    util::both(util::either(0 < s, section), le::byte_at(t, s) == 0)
-}
-
-// There is a good name in the field at `at`.
-fn field_ok(f: &[u8], section: bool, at: usize) -> bool
-    ensures { result ≡ is_good (field_by f.now section at) }
-{
-    let t = field(f, at);
-    field_ends(t, section, chars::stop_short(t, section))
+    (0 < s || section) && le::byte_at(t, s) == 0
 }
 
 // The name in the field at `at`.
+#[tactic(auto, using(crate::proofs::Laws::field_ways))]
 fn field_name(f: &[u8], section: bool, at: usize) -> Option<Name>
     ensures { result ≡ field_by f.now section at }
 {
@@ -207,27 +168,13 @@ fn field_name(f: &[u8], section: bool, at: usize) -> Option<Name>
     }
 }
 
-// Symbol j has a good name: its check alone, which a loop over all symbols has compiled into it.
-pub fn symbol_ok(f: &[u8], h: Header, stops: &[u32], j: u32) -> bool
-    ensures { result ≡ is_good (symbol_name_by f.now h stops.now j) }
-{
-    let at = object::symbol_record_at(h, j);
-    let long = le::u32_at(f, at) == 0;
-    if long {
-        let o = le::u32_at(f, at + object::LONG_OFFSET_AT);
-        long_ok(f, h, stops, false, o as usize)
-    } else {
-        field_ok(f, false, at)
-    }
-}
-
 // The name of symbol j.
+#[tactic(auto, using(util::specs::Pick::picks), unfolding(crate::specs::Names::symbol_name_by))]
 pub fn symbol_name(f: &[u8], h: Header, stops: &[u32], j: u32) -> Option<Name>
     ensures { result ≡ symbol_name_by f.now h stops.now j }
 {
     let at = object::symbol_record_at(h, j);
-    let long = le::u32_at(f, at) == 0;
-    if long {
+    if le::u32_at(f, at) == 0 {
         let o = le::u32_at(f, at + object::LONG_OFFSET_AT);
         long_name(f, h, stops, false, o as usize)
     } else {
@@ -235,12 +182,30 @@ pub fn symbol_name(f: &[u8], h: Header, stops: &[u32], j: u32) -> Option<Name>
     }
 }
 
-fn slash_ok(f: &[u8], h: Header, stops: &[u32], d: Option<u64>) -> bool
-    ensures { result ≡ is_good (slash_name_by f.now h stops.now d) }
+// Symbol j has a good name.
+pub fn symbol_ok(f: &[u8], h: Header, stops: &[u32], j: u32) -> bool
+    ensures { result ≡ is_good (symbol_name_by f.now h stops.now j) }
 {
-    match d {
-        Some(o) => long_ok(f, h, stops, true, o as usize),
-        None => false,
+    names::is_good(symbol_name(f, h, stops, j))
+}
+
+#[tactic(auto, using(util::specs::Pick::picks), unfolding(crate::specs::Names::slash_name_by))]
+fn slash_name(f: &[u8], h: Header, stops: &[u32], d: Option<u64>) -> Option<Name>
+    ensures { result ≡ slash_name_by f.now h stops.now d }
+{
+    long_name(f, h, stops, true, d? as usize)
+}
+
+// The name of section i.
+#[tactic(auto, using(util::specs::Pick::picks), unfolding(crate::specs::Names::section_name_by))]
+pub fn section_name(f: &[u8], h: Header, stops: &[u32], i: u32) -> Option<Name>
+    ensures { result ≡ section_name_by f.now h stops.now i }
+{
+    let at = object::section_header_at(h, i);
+    if le::byte_at(f, at) == names::SLASH {
+        slash_name(f, h, stops, names::slash_offset(f, h, i))
+    } else {
+        field_name(f, true, at)
     }
 }
 
@@ -248,33 +213,5 @@ fn slash_ok(f: &[u8], h: Header, stops: &[u32], d: Option<u64>) -> bool
 pub fn section_ok(f: &[u8], h: Header, stops: &[u32], i: u32) -> bool
     ensures { result ≡ is_good (section_name_by f.now h stops.now i) }
 {
-    let at = object::section_header_at(h, i);
-    let slash = le::byte_at(f, at) == names::SLASH;
-    if slash {
-        slash_ok(f, h, stops, names::slash_offset(f, h, i))
-    } else {
-        field_ok(f, true, at)
-    }
-}
-
-fn slash_name(f: &[u8], h: Header, stops: &[u32], d: Option<u64>) -> Option<Name>
-    ensures { result ≡ slash_name_by f.now h stops.now d }
-{
-    match d {
-        Some(o) => long_name(f, h, stops, true, o as usize),
-        None => None,
-    }
-}
-
-// The name of section i.
-pub fn section_name(f: &[u8], h: Header, stops: &[u32], i: u32) -> Option<Name>
-    ensures { result ≡ section_name_by f.now h stops.now i }
-{
-    let at = object::section_header_at(h, i);
-    let slash = le::byte_at(f, at) == names::SLASH;
-    if slash {
-        slash_name(f, h, stops, names::slash_offset(f, h, i))
-    } else {
-        field_name(f, true, at)
-    }
+    names::is_good(section_name(f, h, stops, i))
 }

@@ -42,6 +42,10 @@ unfoldable pub ascii_from : List ℕ → List ℕ → ℕ → ℕ → ℕ → As
 ascii_from image marks start offset minimum =
     pick (ltb (start + offset) (2 ^ 64)) (ascii_of image marks (start + offset) minimum) (Err (pick (storage_ok (length image) (length marks)) NotMapped Storage))
 
+-- the same at any place, where `reached` says whether a byte there is reached and o is its offset where it is
+unfoldable pub ascii_there : Bool → List ℕ → List ℕ → ℕ → ℕ → Ascii
+ascii_there reached image marks o minimum = pick reached (ascii_of image marks o minimum) (Err (pick (storage_ok (length image) (length marks)) NotMapped Storage))
+
 -- the bytes of an answer: that part of the image, or none
 unfoldable pub text_of : List ℕ → Ascii → List ℕ
 text_of image (Ok (Some t)) = part image t.start.0 t.length

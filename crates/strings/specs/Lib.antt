@@ -1,1 +1,2 @@
 pub mod Ascii
+pub mod AsciiLaws

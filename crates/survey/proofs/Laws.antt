@@ -1,7 +1,7 @@
 -- The ways through the code. Assumes nothing.
-use Rattle.refusal.specs.declared.Refusal.TheVariants.{Externs, Pages, Place, Target}
+use Rattle.refusal.specs.declared.Refusal.TheVariants.{Externs, Pages}
 use Rattle.refusal.specs.declared.Refusal.{Refusal}
-use Rattle.std.specs.Prelude.{Option, Result, Ok, Err, Some, None}
+use Rattle.std.specs.Prelude.{Option, Result, Ok, Err, Some, None, ok_or}
 use mathlib.Core.Path.{◌≡◌, refl, sym, ap, ◌∙◌}
 use mathlib.Core.Bool.{Bool, true, false, not, ◌&&◌}
 use mathlib.Core.List.{List, [], ◌∷◌, ◌++◌}
@@ -12,7 +12,7 @@ use lib.Dec.{eqb, leb}
 use lib.ListN.{length}
 use borrow.Author.Tests.{not-true, not-false}
 use Rattle.limits.specs.Limits.{MAX_SECTIONS, FEW_SECTIONS, FEW_SYMBOLS, MAX_PAGES, MAX_EXTERNS}
-use Rattle.refusal.specs.Refusal.{PAGES}
+use Rattle.refusal.specs.Refusal.{Code, PASSES, PAGES, answer_of, value_is, refusal_is}
 use Rattle.util.specs.Pick.{pick, yes_no, flag_yes, flag_no}
 use Rattle.le.specs.Le.{splice}
 use Rattle.codes.specs.Code.{codes_to}
@@ -40,7 +40,7 @@ use Rattle.fixups.specs.TallyLaws.{all_counted}
 use Rattle.fixups.specs.declared.Tally.{Tally}
 use Rattle.survey.specs.declared.answer.Counts.{Counts}
 use Rattle.survey.specs.Survey.{Check, check, first_failed, early_checks, page_checks, target_checks, extern_checks, tally_by, counts_by, tally, checks, counts, answer_by, survey_of}
-use Rattle.survey.specs.SurveyLaws.{Early, Ordered, failed_first, early, early_rest, with_pages, records_rest, says_refused, sections_fit, fits_is}
+use Rattle.survey.specs.SurveyLaws.{Early, Ordered, failed_first, early, early_rest, with_pages, records_rest, sections_fit, fits_is}
 use Rattle.survey.specs.Surveying.{behind_pages, targets_answer, planned_by, names_in, answer_in, few_records, home_words, code_words, Cleared}
 use Rattle.survey.specs.TableLaws.{few_cleared, many_cleared, answer_whole}
 
@@ -65,8 +65,8 @@ unfolding counts_by
 counts_are f h home n p s y r u t a b c d e = rw (a, e, b, c, d)
 
 -- ---- the chain of checks
-module _ (ok r : Bool) (n : ℕ) (cs : List Check) where
-  pub check_pass : (x : ℕ) → r ≡ ok → not r ≡ false → x ≡ first_failed cs → x ≡ first_failed (check ok n ∷ cs)
+module _ (ok r : Bool) (n : Code) (cs : List Check) where
+  pub check_pass : (x : Code) → r ≡ ok → not r ≡ false → x ≡ first_failed cs → x ≡ first_failed (check ok n ∷ cs)
   unfolding first_failed pick
   check_pass x q e d = let z : ok ≡ true = cc (not-false r e) in rw z d
 
@@ -74,7 +74,7 @@ module _ (ok r : Bool) (n : ℕ) (cs : List Check) where
   unfolding first_failed pick
   check_fail q e = let z : ok ≡ false = cc (not-true r e) in rw z
 
-pub checks_end : 0 ≡ first_failed []
+pub checks_end : PASSES ≡ first_failed []
 unfolding first_failed
 checks_end = refl
 
@@ -115,21 +115,17 @@ module _ (f : List ℕ) (h : Header) (b : Bool) (u : RVA) (q : b ≡ leb (pages_
 
 pub ruleset planned = (planned_yes, behind_no)
 
--- ---- the answer
-module _ (t : Tally) (c : Counts) where
-  pub verdict_yes : eqb t.refused 0 ≡ true → eqb t.outside 0 ≡ true → Ok c ≡ answer_by (first_failed (target_checks t)) c
-  unfolding answer_by first_failed pick
-  verdict_yes e d = rw (e, d)
+-- ---- behind refusals 10 and 11
+module _ (f : List ℕ) (h : Header) (home : ℕ → Option RVA) (target : ℕ → Target) (n : ℕ) (t : Tally) (u : RVA) (k : Code)
+    (is : mapped_pages f h ≤ MAX_PAGES → u ≡ rva (undef_start f h) → t ≡ tally_by f h home target) (checked : k ≡ first_failed (target_checks t)) where
+  pub targets_refused : (r : Refusal) → k ≡ Err r → mapped_pages f h ≤ MAX_PAGES → u ≡ rva (undef_start f h) → Err r ≡ targets_answer f h home target n
+  targets_refused r e p q = refusal_is k _ _ r (rw (is p q) at checked) e
 
-  pub verdict_outside : eqb t.refused 0 ≡ true → eqb t.outside 0 ≡ false → Err Place ≡ answer_by (first_failed (target_checks t)) c
-  unfolding answer_by first_failed pick
-  verdict_outside e d = rw (e, d)
+  pub targets_counted : (v : Unit) (c : Counts) → k ≡ Ok v → (u ≡ rva (undef_start f h) → c ≡ counts_by f h home n t)
+      → mapped_pages f h ≤ MAX_PAGES → u ≡ rva (undef_start f h) → Ok c ≡ targets_answer f h home target n
+  targets_counted v c e d p q = value_is k _ _ c v (rw (is p q) at checked) e (rw (is p q) at (d q))
 
-  pub verdict_refused : eqb t.refused 0 ≡ false → Err Target ≡ answer_by (first_failed (target_checks t)) c
-  unfolding answer_by first_failed pick
-  verdict_refused e = rw e
-
-pub ruleset verdicts = (verdict_yes, verdict_outside, verdict_refused)
+pub ruleset targets_ways = (targets_refused, targets_counted)
 
 -- ---- the extern names
 names_over : (ys : List ℕ) → None ≡ names_of ys → leb (length ys) MAX_EXTERNS ≡ false
@@ -146,19 +142,30 @@ names_fit ys n e =
     ⊎_elim (λ t. record { few = t; all = let z : Some n ≡ Some (length ys) = rw t at e in cc })
     (λ t. absurd (let z : Some n ≡ None = rw t at e in let w : ◌≡◌ {A = ℕ} 0 1 = cc in omega arith)) (yes_no (leb (length ys) MAX_EXTERNS))
 
-module _ (f : List ℕ) (h : Header) (homes codes : List ℕ) (r : Option ℕ) (is : r ≡ names_of (names_in f h codes)) where
-  pub externs_over : r ≡ None → Err Externs ≡ answer_in f h homes codes
-  unfolding answer_by first_failed pick
-  externs_over e = rw (names_over (names_in f h codes) (sym e ∙ is))
+-- what is said where there are too many
+pub some_is : (r : Option ℕ) (n : ℕ) → ok_or r Externs ≡ Ok n → r ≡ Some n
+some_is (Some m) n e = cc
+some_is None n e = cc
 
-  pub externs_fit : (n : ℕ) (codes' : List ℕ) (u : RVA) (x : Result Counts Refusal) → r ≡ Some n → CodesAfter f h codes (names_in f h codes) codes'
+pub none_is : (r : Option ℕ) (k : Refusal) → ok_or r Externs ≡ Err k → (r ≡ None) × (k ≡ Externs)
+none_is (Some m) k e = cc
+none_is None k e = (refl, cc)
+
+module _ (f : List ℕ) (h : Header) (homes codes : List ℕ) (r : Option ℕ) (q : Result ℕ Refusal) (is : r ≡ names_of (names_in f h codes)) (said : q ≡ ok_or r Externs) where
+  pub externs_over : (k : Refusal) → q ≡ Err k → Err k ≡ answer_in f h homes codes
+  unfolding answer_of first_failed pick
+  externs_over k e =
+      let z = none_is r k (sym said ∙ e) in
+      rw (z.1, names_over (names_in f h codes) (sym z.0 ∙ is))
+
+  pub externs_fit : (n : ℕ) (codes' : List ℕ) (u : RVA) (x : Result Counts Refusal) → q ≡ Ok n → CodesAfter f h codes (names_in f h codes) codes'
       → mapped_pages f h ≤ MAX_PAGES → u ≡ rva (undef_start f h)
       → (mapped_pages f h ≤ MAX_PAGES → u ≡ rva (undef_start f h) → x ≡ targets_answer f h (home_in homes) (target_in homes (undef_start f h) codes') n)
       → x ≡ answer_in f h homes codes
   unfolding first_failed pick
-  externs_fit n codes' u x e q room start d =
-      let c = names_fit (names_in f h codes) n (sym e ∙ is) in
-      let g : codes' ≡ slotted f h (names_in f h codes) codes = q.few c.few in
+  externs_fit n codes' u x e after room start d =
+      let c = names_fit (names_in f h codes) n (sym (some_is r n (sym said ∙ e)) ∙ is) in
+      let g : codes' ≡ slotted f h (names_in f h codes) codes = after.few c.few in
       rw c.few (rw (g, c.all) at (d room start))
 
 pub ruleset extern_ways = (externs_over, externs_fit)
@@ -186,44 +193,36 @@ behind_is : (f : List ℕ) (h : Header) (s y : Result Counts Refusal) → (pages
 unfolding pick
 behind_is f h s y a b = ⊎_elim (λ t. rw t (a t)) (λ t. rw t (b t)) (yes_no (pages_ok f h))
 
-module _ (f : List ℕ) (h : Header) (code : ℕ) (is : code ≡ first_failed (early_checks f h)) where
+module _ (f : List ℕ) (h : Header) (code : Code) (is : code ≡ first_failed (early_checks f h)) where
   abbrev late : List Check
   late = extern_checks (length (externs f h)) ++ target_checks (tally f h)
 
-  refused_by : (k : ℕ) → first_failed (checks f h) ≡ suc k → Err (suc k) ≡ answer_by (first_failed (checks f h)) (counts f h)
-  refused_by k e = rw e (says_refused (suc k) (counts f h) (λ z. absurd (omega arith)))
+  refused_by : (r : Refusal) → first_failed (checks f h) ≡ Err r → Err r ≡ answer_by (first_failed (checks f h)) (counts f h)
+  unfolding answer_of
+  refused_by r e = rw e
 
   pages_apply : Early f h → pages_ok f h ≡ false → first_failed (checks f h) ≡ PAGES
   unfolding first_failed pick
   pages_apply o t = early_rest f h (page_checks f h ++ late) o ∙ rw t
 
   ordered_answer : Ordered f h → h ≡ header_of f → answer_in f h (home_words f h) (code_words f h) ≡ answer_by (first_failed (checks f h)) (counts f h)
-  ordered_answer o q = answer_whole f h (fits_is f h q o) o.numbers ∙ ap (λ (k : ℕ). answer_by k (counts f h)) (sym (records_rest f h late o))
+  ordered_answer o q = answer_whole f h (fits_is f h q o) o.numbers ∙ ap (λ (k : Code). answer_by k (counts f h)) (sym (records_rest f h late o))
 
-  pages_answer : code ≡ 0 → h ≡ header_of f → behind_pages f h (answer_in f h (home_words f h) (code_words f h)) ≡ answer_by (first_failed (checks f h)) (counts f h)
-  pages_answer z q =
-      let o = early f h [] (sym is ∙ z) in
-      behind_is f h _ _ (λ t. ordered_answer (with_pages f h o t) q) (λ t. refused_by (PAGES - 1) (pages_apply o t))
+  module _ (v : Unit) (passed : code ≡ Ok v) where
+    in_order : Early f h
+    in_order = early f h [] (sym is ∙ passed)
 
-  -- a place for each section
-  pub few_records_lem : code ≡ 0 → h.sections ≤ MAX_SECTIONS
-  few_records_lem z = sections_fit f h (early f h [] (sym is ∙ z)).section_table
+    pages_answer : h ≡ header_of f → behind_pages f h (answer_in f h (home_words f h) (code_words f h)) ≡ answer_by (first_failed (checks f h)) (counts f h)
+    pages_answer q = behind_is f h _ _ (λ t. ordered_answer (with_pages f h in_order t) q) (λ t. refused_by Pages (pages_apply in_order t))
 
-  pub survey_yes : (x : Result Counts Refusal) → h ≡ header_of f → code ≡ 0 → x ≡ behind_pages f h (answer_in f h (home_words f h) (code_words f h)) → x ≡ survey_of f
-  survey_yes x q z d = rw (← q) (d ∙ pages_answer z q)
+    -- a place for each section
+    pub sections_few : h.sections ≤ MAX_SECTIONS
+    sections_few = sections_fit f h in_order.section_table
 
-  early_refused : (k : ℕ) → k ≡ first_failed (early_checks f h) → (k ≡ 0 → ⊥) → Err k ≡ answer_by (first_failed (checks f h)) (counts f h)
-  early_refused zero e z = absurd (z refl)
-  early_refused (suc k) e z = refused_by k (failed_first (early_checks f h) (page_checks f h ++ late) k (sym e))
+    pub survey_yes : (x : Result Counts Refusal) → h ≡ header_of f → x ≡ behind_pages f h (answer_in f h (home_words f h) (code_words f h)) → x ≡ survey_of f
+    survey_yes x q d = rw (← q) (d ∙ pages_answer q)
 
-  pub survey_no : h ≡ header_of f → (code ≡ 0 → ⊥) → Err code ≡ survey_of f
-  survey_no q z = rw (← q) (early_refused code is z)
+  pub survey_no : (r : Refusal) → code ≡ Err r → h ≡ header_of f → Err r ≡ survey_of f
+  survey_no r z q = rw (← q) (refused_by r (failed_first (early_checks f h) (page_checks f h ++ late) r (sym is ∙ z)))
 
-pub ruleset whole = (few_records_lem, survey_yes, survey_no)
-
--- ---- the answer by a tally and counts, which are known where UNDEF starts there
-pub targets_by : (f : List ℕ) (h : Header) (home : ℕ → Option RVA) (target : ℕ → Target) (n : ℕ) (u : RVA) (t : Tally) (c : Counts) {r : Result Counts Refusal}
-    → r ≡ answer_by (first_failed (target_checks t)) c → (u ≡ rva (undef_start f h) → c ≡ counts_by f h home n t)
-    → (mapped_pages f h ≤ MAX_PAGES → u ≡ rva (undef_start f h) → t ≡ tally_by f h home target)
-    → mapped_pages f h ≤ MAX_PAGES → u ≡ rva (undef_start f h) → r ≡ targets_answer f h home target n
-targets_by f h home target n u t c p q e room start = rw (← e room start, ← q start) p
+pub ruleset whole = (sections_few, survey_yes, survey_no)

@@ -1,5 +1,6 @@
 -- What acceptance gives: of every file that survey accepts, as the small object is (`demands: Table`).
 use Rattle.refusal.specs.declared.Refusal.{Refusal}
+use Rattle.refusal.specs.Refusal.{PASSES}
 use Rattle.std.specs.Prelude.{◌≡◌, refl, false, not, List, ◌++◌, ◌⊎◌, ℕ, ◌+◌, ◌*◌, ◌/◌, ◌≤◌, ◌<◌, ◌^◌, ltb, length, get_or, Some, Result, Ok, Err}
 use Rattle.std.proofs.Math.Bool.{true}
 use Rattle.std.proofs.Common.{inl, inr, ⊎_elim, arith}
@@ -48,7 +49,7 @@ module _ (f : List ℕ) (c : Counts) (accepted : survey_of f ≡ Ok c) where
   abbrev header : Header
   header = header_of f
 
-  no_failure : first_failed (checks f header) ≡ 0
+  no_failure : first_failed (checks f header) ≡ PASSES
   no_failure = (tells_accepted (first_failed (checks f header)) (counts f header) c accepted).0
 
   pub counts_are : counts f header ≡ c
@@ -58,7 +59,7 @@ module _ (f : List ℕ) (c : Counts) (accepted : survey_of f ≡ Ok c) where
   pub records_ordered : Ordered f header
   records_ordered = ordered f header (extern_checks (length (externs f header)) ++ target_checks (tally f header)) no_failure
 
-  rest : first_failed (extern_checks (length (externs f header)) ++ target_checks (tally f header)) ≡ 0
+  rest : first_failed (extern_checks (length (externs f header)) ++ target_checks (tally f header)) ≡ PASSES
   rest = ordered_rest f header (extern_checks (length (externs f header)) ++ target_checks (tally f header)) no_failure
 
   -- no more than 1,024 names

@@ -1,8 +1,9 @@
 -- What an answer of survey says of the file.
 use Rattle.refusal.specs.declared.Refusal.{Refusal}
-use Rattle.std.specs.Prelude.{◌≡◌, refl, Bool, true, false, List, [], ◌∷◌, ◌++◌, ℕ, zero, suc, ◌≤◌, leb, eqb, Result, Ok, Err}
-use Rattle.std.proofs.Common.{sym, ◌∙◌, ⊎_elim, arith, leb-true, ne_eqb}
-use Rattle.util.specs.Pick.{pick, yes_no, and_left, head_passes, rest_passes}
+use Rattle.std.specs.Prelude.{◌≡◌, refl, Bool, true, false, List, [], ◌∷◌, ◌++◌, ℕ, ◌≤◌, leb, eqb, Ok, Err}
+use Rattle.std.proofs.Common.{sym, ◌∙◌, ⊎_elim, arith, leb-true}
+use Rattle.util.specs.Pick.{pick, yes_no, and_left}
+use Rattle.refusal.specs.Refusal.{Code, PASSES, answer_of}
 use Rattle.object.specs.declared.Header.{Header}
 use Rattle.object.specs.Format.{header_of}
 use Rattle.layout.specs.Layout.{mapped_pages}
@@ -15,21 +16,21 @@ use Rattle.survey.specs.Survey.{Check, check, first_failed, early_checks, page_c
 use Rattle.survey.specs.Surveying.{Fits}
 
 -- ---- a list of checks without a failure
-module _ (ok : Bool) (n : ℕ) (cs : List Check) where
-  pub check_holds : first_failed (check ok (suc n) ∷ cs) ≡ 0 → ok ≡ true
-  unfolding first_failed
-  check_holds e = head_passes ok (first_failed cs) (suc n) e (λ z. absurd (omega arith))
+module _ (ok : Bool) (r : Refusal) (cs : List Check) where
+  pub check_holds : first_failed (check ok (Err r) ∷ cs) ≡ PASSES → ok ≡ true
+  unfolding first_failed pick
+  check_holds e = ⊎_elim (λ t. t) (λ t. let z : ◌≡◌ {A = Code} (Err r) PASSES = rw t at e in cc) (yes_no ok)
 
-  pub checks_hold : first_failed (check ok (suc n) ∷ cs) ≡ 0 → first_failed cs ≡ 0
-  unfolding first_failed
-  checks_hold e = rest_passes ok (first_failed cs) (suc n) e (λ z. absurd (omega arith))
+  pub checks_hold : first_failed (check ok (Err r) ∷ cs) ≡ PASSES → first_failed cs ≡ PASSES
+  unfolding first_failed pick
+  checks_hold e = rw (check_holds e) at e
 
 -- of two lists, the second is asked only where the first has no failure
-pub failed_first : (xs ys : List Check) (n : ℕ) → first_failed xs ≡ suc n → first_failed (xs ++ ys) ≡ suc n
+pub failed_first : (xs ys : List Check) (r : Refusal) → first_failed xs ≡ Err r → first_failed (xs ++ ys) ≡ Err r
 unfolding first_failed pick
-failed_first [] ys n e = absurd (omega arith)
-failed_first (c ∷ xs) ys n e =
-    ⊎_elim (λ t. rw t (failed_first xs ys n (rw t at e))) (λ t. rw t (rw t at e)) (yes_no c.passes)
+failed_first [] ys r e = cc
+failed_first (c ∷ xs) ys r e =
+    ⊎_elim (λ t. rw t (failed_first xs ys r (rw t at e))) (λ t. rw t (rw t at e)) (yes_no c.passes)
 
 -- ---- the file's records are in order: 1 to 7 do not apply
 pub record Early (f : List ℕ) (h : Header) : Type 0 where
@@ -54,7 +55,7 @@ pub record Ordered (f : List ℕ) (h : Header) : Type 0 where
 
 module _ (f : List ℕ) (h : Header) where
   -- the seven checks of the records, with others behind them
-  pub early : (cs : List Check) → first_failed (early_checks f h ++ cs) ≡ 0 → Early f h
+  pub early : (cs : List Check) → first_failed (early_checks f h ++ cs) ≡ PASSES → Early f h
   early cs e0 =
       let e1 = checks_hold _ _ _ e0 in
       let e2 = checks_hold _ _ _ e1 in
@@ -92,14 +93,14 @@ module _ (f : List ℕ) (h : Header) where
       }
 
   -- the eight, with others behind them
-  module _ (cs : List Check) (e : first_failed (record_checks f h ++ cs) ≡ 0) where
-    pages_rest : first_failed (page_checks f h ++ cs) ≡ 0
+  module _ (cs : List Check) (e : first_failed (record_checks f h ++ cs) ≡ PASSES) where
+    pages_rest : first_failed (page_checks f h ++ cs) ≡ PASSES
     pages_rest = sym (early_rest (page_checks f h ++ cs) (early (page_checks f h ++ cs) e)) ∙ e
 
     pub ordered : Ordered f h
     ordered = with_pages (early (page_checks f h ++ cs) e) (check_holds _ _ _ pages_rest)
 
-    pub ordered_rest : first_failed cs ≡ 0
+    pub ordered_rest : first_failed cs ≡ PASSES
     ordered_rest = checks_hold _ _ _ pages_rest
 
   -- where they are in order, the checks behind them decide
@@ -107,26 +108,16 @@ module _ (f : List ℕ) (h : Header) where
   unfolding first_failed pick
   records_rest cs o = rw (o.size, o.machine, o.section_table, o.symbol_table, o.sections, o.names, o.numbers, o.pages)
 
-pub says_refused : (code : ℕ) (c : Counts) → (code ≡ 0 → ⊥) → Err code ≡ answer_by code c
-unfolding answer_by pick
-says_refused code c z = rw (ne_eqb code 0 z)
-
 -- an answer tells its code
-pub tells_accepted : (code : ℕ) (a c : Counts) → answer_by code a ≡ Ok c → (code ≡ 0) × (a ≡ c)
-unfolding answer_by pick
-tells_accepted zero a c e = (refl, cc)
-tells_accepted (suc n) a c e =
-    let t : eqb (suc n) 0 ≡ false = ne_eqb (suc n) 0 (λ z. absurd (omega arith)) in
-    let z : Err (suc n) ≡ Ok c = rw t at e in
-    absurd (let w : ◌≡◌ {A = ℕ} 0 1 = cc in omega arith)
+pub tells_accepted : (code : Code) (a c : Counts) → answer_by code a ≡ Ok c → (code ≡ PASSES) × (a ≡ c)
+unfolding answer_of
+tells_accepted (Ok u) a c e = (refl, cc)
+tells_accepted (Err r) a c e = cc
 
-pub tells_refused : (code : ℕ) (a : Counts) (n : ℕ) → answer_by code a ≡ Err n → (code ≡ n) × (code ≡ 0 → ⊥)
-unfolding answer_by pick
-tells_refused zero a n e = absurd (let w : ◌≡◌ {A = ℕ} 0 1 = cc in omega arith)
-tells_refused (suc k) a n e =
-    let t : eqb (suc k) 0 ≡ false = ne_eqb (suc k) 0 (λ z. absurd (omega arith)) in
-    let z : Err (suc k) ≡ Err n = rw t at e in
-    (cc, λ q. absurd (omega arith))
+pub tells_refused : (code : Code) (a : Counts) (r : Refusal) → answer_by code a ≡ Err r → code ≡ Err r
+unfolding answer_of
+tells_refused (Ok u) a r e = cc
+tells_refused (Err k) a r e = cc
 
 -- ---- the local arrays hold the file's records
 no_table : (f : List ℕ) → eqb (header_of f).symbol_table 0 ≡ true → (header_of f).symbols ≡ 0

@@ -1,5 +1,6 @@
 -- The words that survey and load fill once say what the rules do, where the file's records pass their checks.
 use Rattle.arch.specs.declared.RVA.{RVA}
+use Rattle.refusal.specs.Refusal.{answer_of}
 use Rattle.std.specs.Prelude.{◌≡◌, refl, false, not, ◌&&◌, ◌||◌, List, ℕ, ◌≤◌, ◌<◌, length, get_or, replicate, Option}
 use Rattle.std.proofs.Common.{sym, ap, ◌∙◌}
 use Rattle.std.proofs.Math.Path.{fun_ext}
@@ -153,7 +154,7 @@ module _ (f : List ℕ) (h : Header) (fits : Fits f h) where
 
     -- the answer is the one by the rules
     pub answer_whole : answer_in f h (home_words f h) (code_words f h) ≡ externs_answer f h (section_home f h) (targets f h) (length (externs f h))
-    unfolding answer_by first_failed pick
+    unfolding answer_of first_failed pick
     answer_whole =
         rw names_whole
         (⊎_elim (λ k. rw (targets_whole k, homes_whole)) (λ k. rw (lt-leb (length (externs f h)) MAX_EXTERNS k)) (le_or_lt (length (externs f h)) MAX_EXTERNS))

@@ -1,7 +1,7 @@
 // What survey answers.
 // How much load will need, and the file's own numbers: mapped pages, records of the section table with UNDEF's, listed symbols, extern names,
 // fixups, skipped and passed relocations; the file's section records, symbol records and relocations.
-#[derive(Clone, Copy)]
+#[derive(Clone, Copy, Default, PartialEq, Eq)]
 pub struct Counts {
     pub pages: u64,
     pub sections: u64,
@@ -13,11 +13,4 @@ pub struct Counts {
     pub file_sections: u64,
     pub symbol_records: u64,
     pub relocations: u64,
-}
-
-// The counts of a file that passes every check, or the number of the first refusal.
-#[derive(Clone, Copy)]
-pub enum Survey {
-    Accepted(Counts),
-    Refused(u64),
 }

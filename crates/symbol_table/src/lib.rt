@@ -14,6 +14,7 @@ use arch::VA;
 use object::{Header, Symbol};
 
 // The record of symbol j, whose record in the file is s, at place n of the table.
+#[tactic(auto, using(crate::proofs::Laws::symbol_put))]
 fn put_symbol(
     f: &[u8],
     h: Header,
@@ -30,7 +31,7 @@ fn put_symbol(
 {
     let p = object::place_of(s);
     let offset = homes::listed_offset(homes, p, object::listed_of(s));
-    let address = std::num::wrapping_add_u64(base.0, offset.0);
+    let address = base.0.wrapping_add(offset.0);
     let name = stops::symbol_name(f, h, stops, j);
     let kind = u64::from(object::kind_of(s));
     let home = homes::record_of_place(homes, p);
@@ -39,36 +40,32 @@ fn put_symbol(
         kind,
         names::name_start(name),
         names::name_length(name),
-        j as u64,
-        home as u64,
+        u64::from(j),
+        u64::from(home),
     ];
     words::put(b, limits::SYMBOL_BYTES * (n as usize), &ws);
 }
 
 // A record for each listed symbol, in file order.
+#[tactic(auto, using(crate::proofs::Laws::symbols_loop))]
 fn write_listed(f: &[u8], h: Header, base: VA, homes: &[u32], stops: &[u32], b: &mut [u8])
     requires { stops.now ≡ stops_of false f.now h }
     ensures { b.new ≡ splice b.old 0 (symbol_table f.now h base.0 (home_in homes.now) (record_in homes.now)) }
 {
-    let m = h.symbols;
-    let mut n: u32 = 0;
-    let mut left: u8 = 0;
-    let mut j: u32 = 0;
-    while j < m {
+    let mut n = 0;
+    let mut left = 0;
+    for j in 0..h.symbols {
         let s = object::read_symbol(f, h, j);
-        let found = homes::is_listed(homes, left, s);
-        left = object::left_by(left, s.auxiliaries);
-        if found {
+        if homes::is_listed(homes, left, s) {
             put_symbol(f, h, base, homes, stops, s, j, n, b);
             n += 1;
-            j += 1;
-        } else {
-            j += 1;
         }
+        left = object::left_by(left, s.auxiliaries);
     }
 }
 
 // The table; long names are found by the noted stops.
+#[tactic(auto, using(stops::specs::NameLaws::kept))]
 pub fn write_symbols(f: &[u8], h: Header, base: VA, homes: &[u32], b: &mut [u8])
     ensures { b.new ≡ splice b.old 0 (symbol_table f.now h base.0 (home_in homes.now) (record_in homes.now)) }
 {

@@ -9,6 +9,7 @@ ghost use Rattle.tables.specs.Externs.{extern_words, extern_table};
 use arch::{RVA, VA};
 use object::Header;
 
+#[tactic(auto, using(crate::proofs::Laws::extern_put))]
 fn put_extern(
     f: &[u8],
     h: Header,
@@ -24,11 +25,11 @@ fn put_extern(
 {
     let j = le::word_at(slots, e as usize);
     let name = stops::symbol_name(f, h, stops, j);
-    let start = std::num::wrapping_add_u64(base.0, undef.0);
-    let slot = std::num::wrapping_add_u64(start, limits::SLOT_SIZE * (e as u64));
+    let start = base.0.wrapping_add(undef.0);
+    let slot = start.wrapping_add(limits::SLOT_SIZE * u64::from(e));
     let ws = [
         slot,
-        j as u64,
+        u64::from(j),
         names::name_start(name),
         names::name_length(name),
     ];
@@ -36,6 +37,7 @@ fn put_extern(
 }
 
 // The first n names of `slots`.
+#[tactic(auto, using(crate::proofs::Laws::externs_loop))]
 fn list_externs(
     f: &[u8],
     h: Header,
@@ -49,14 +51,13 @@ fn list_externs(
     requires { stops.now ≡ stops_of false f.now h }
     ensures { b.new ≡ splice b.old 0 (extern_table f.now h base.0 undef.0 slots.now n) }
 {
-    let mut e: u32 = 0;
-    while e < n {
+    for e in 0..n {
         put_extern(f, h, base, undef, slots, stops, e, b);
-        e += 1;
     }
 }
 
 // The table; long names are found by the noted stops.
+#[tactic(auto, using(stops::specs::NameLaws::kept))]
 pub fn write_externs(f: &[u8], h: Header, base: VA, undef: RVA, slots: &[u32], n: u32, b: &mut [u8])
     ensures { b.new ≡ splice b.old 0 (extern_table f.now h base.0 undef.0 slots.now n) }
 {

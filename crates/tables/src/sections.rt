@@ -14,6 +14,7 @@ use object::Header;
 const READ: u64 = 1;
 
 // Section i's record, at place n of the table.
+#[tactic(auto, using(crate::proofs::Laws::section_put))]
 fn put_section(
     f: &[u8],
     h: Header,
@@ -28,32 +29,34 @@ fn put_section(
     ensures { b.new ≡ splice b.old (SECTION_BYTES * n) (word_bytes (section_words f.now h base.0 (home_in homes.now) i)) }
 {
     let at = homes::start_in(homes, i);
-    let start = std::num::wrapping_add_u64(base.0, at.0);
-    let end = std::num::wrapping_add_u64(start, object::range_length(f, h, i));
+    let start = base.0.wrapping_add(at.0);
+    let end = start.wrapping_add(object::range_length(f, h, i));
     let name = stops::section_name(f, h, stops, i);
     let ws = [
         start,
         end,
-        object::file_start(f, h, i) as u64,
+        u64::from(object::file_start(f, h, i)),
         object::file_end(f, h, i),
-        object::permissions(f, h, i) as u64,
+        u64::from(object::permissions(f, h, i)),
         names::name_start(name),
         names::name_length(name),
-        i as u64 + 1,
+        u64::from(i) + 1,
     ];
     words::put(b, limits::SECTION_BYTES * (n as usize), &ws);
 }
 
+#[tactic(auto, using(crate::proofs::Laws::undef_put))]
 fn put_undef(base: VA, undef: RVA, n: u32, b: &mut [u8])
     ensures { b.new ≡ splice b.old (SECTION_BYTES * n) (word_bytes (undef_words base.0 undef.0)) }
 {
-    let start = std::num::wrapping_add_u64(base.0, undef.0);
-    let end = std::num::wrapping_add_u64(start, PAGE_SIZE);
+    let start = base.0.wrapping_add(undef.0);
+    let end = start.wrapping_add(PAGE_SIZE);
     let ws = [start, end, 0, 0, READ, 0, 0, 0];
     words::put(b, limits::SECTION_BYTES * (n as usize), &ws);
 }
 
 // A record for each loaded section, and UNDEF's.
+#[tactic(auto, using(crate::proofs::Laws::sections_loop))]
 fn list_sections(
     f: &[u8],
     h: Header,
@@ -66,22 +69,19 @@ fn list_sections(
     requires { stops.now ≡ stops_of true f.now h }
     ensures { b.new ≡ splice b.old 0 (section_table f.now h base.0 (home_in homes.now) undef.0) }
 {
-    let m = h.sections as u32;
-    let mut n: u32 = 0;
-    let mut i: u32 = 0;
-    while i < m {
+    let mut n = 0;
+    for i in 0..h.sections {
+        let i = u32::from(i);
         if object::is_loaded(f, h, i) {
             put_section(f, h, base, homes, stops, i, n, b);
             n += 1;
-            i += 1;
-        } else {
-            i += 1;
         }
     }
     put_undef(base, undef, n, b);
 }
 
 // The table; long names are found by the noted stops.
+#[tactic(auto, using(stops::specs::NameLaws::kept))]
 pub fn write_sections(f: &[u8], h: Header, base: VA, homes: &[u32], undef: RVA, b: &mut [u8])
     ensures { b.new ≡ splice b.old 0 (section_table f.now h base.0 (home_in homes.now) undef.0) }
 {

@@ -30,7 +30,7 @@ skip_number NoHome = 2
 skip_number NoSlot = 3
 skip_number NoType = 4
 
--- the refusal of each case (01, "Survey"), 0 where there is none
+-- the refusal of each case (01, "Survey"); it passes where there is none
 abbrev pub target_refusal : Target → Code
 target_refusal (Home o) = PASSES
 target_refusal (Named o) = PASSES
@@ -80,17 +80,17 @@ abbrev pub targets : List ℕ → Header → ℕ → Target
 targets f h = target_of f h (section_home f h) (undef_start f h) (slot_of f h (externs f h))
 
 -- ---- a target is refused where its rule is, by the same number
-home_not_refused : (x : Option RVA) → target_refusal (home_target x) ≡ 0
+home_not_refused : (x : Option RVA) → target_refusal (home_target x) ≡ PASSES
 unfolding home_target
 home_not_refused (Some o) = refl
 home_not_refused None = refl
 
-slot_not_refused : (undef : ℕ) (x : Option ℕ) → target_refusal (slot_target undef x) ≡ 0
+slot_not_refused : (undef : ℕ) (x : Option ℕ) → target_refusal (slot_target undef x) ≡ PASSES
 unfolding slot_target
 slot_not_refused undef (Some e) = refl
 slot_not_refused undef None = refl
 
-named_not_refused : (x : Option RVA) (other : Target) → target_refusal other ≡ 0 → target_refusal (named_target x other) ≡ 0
+named_not_refused : (x : Option RVA) (other : Target) → target_refusal other ≡ PASSES → target_refusal (named_target x other) ≡ PASSES
 unfolding named_target
 named_not_refused (Some o) other e = refl
 named_not_refused None other e = e

@@ -1,10 +1,9 @@
 // The actions on a load, a line each.
-ghost use Rattle.std.specs.Prelude.{◌≤◌};
-
 use crate::say;
 use arch::VA;
-use refusal::Refusal;
+use listing::Tables;
 use survey::Counts;
+use text::Writer;
 
 const TABLES: u8 = 0;
 
@@ -81,13 +80,10 @@ fn tables(
     fixups: &[u8],
     skips: &[u8],
 ) {
-    let n = cases::few(listing::line_count(c));
-    let mut k: u16 = 0;
-    while k < n {
+    for k in 0..cases::few(listing::line_count(c)) {
         table_line(
             f, base, c, sections, symbols, externs, fixups, skips, k as u32,
         );
-        k += 1;
     }
 }
 
@@ -104,19 +100,21 @@ fn table_line(
     k: u32,
 ) {
     let mut line = [0u8; 16384];
-    let n = listing::line(
-        f,
-        VA(base),
-        c,
+    let mut out = Writer {
+        out: &mut line,
+        at: 0,
+    };
+    let tables = Tables {
+        file: f,
+        counts: c,
         sections,
         symbols,
         externs,
         fixups,
         skips,
-        k,
-        &mut line,
-    );
-    cases::text(le::part(&line, 0, n));
+    };
+    tables.line(VA(base), k, &mut out);
+    cases::text(out.written());
 }
 
 // `patch NUMBER POSITION`
@@ -173,7 +171,7 @@ fn routine(line: &[u8], c: Counts, sections: &[u8], symbols: &[u8]) {
 // `read ADDRESS LENGTH`; no read of the input is longer than the buffer.
 fn read(line: &[u8], base: u64, image: &[u8], marks: &[u8]) {
     let mut buffer = [0u8; 65536];
-    let n = least(cases::number_at(line, 2) as usize, buffer.len());
+    let n = buffer.len().min(cases::number_at(line, 2) as usize);
     into(
         base,
         cases::number_at(line, 1),
@@ -183,15 +181,9 @@ fn read(line: &[u8], base: u64, image: &[u8], marks: &[u8]) {
     );
 }
 
-fn least(a: usize, b: usize) -> usize
-    ensures { result ≤ b }
-{
-    if a < b { a } else { b }
-}
-
 fn into(base: u64, address: u64, image: &[u8], marks: &[u8], buffer: &mut [u8]) {
     match aspace::absolute::read_into(image, marks, VA(base), VA(address), buffer) {
-        Err(n) => cases::refused(n),
+        Err(r) => cases::refused(r),
         Ok(()) => say::crc(buffer),
     }
 }

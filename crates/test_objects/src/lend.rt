@@ -1,7 +1,7 @@
 // A load of sixteen pages at most, and the actions on it.
 use crate::{act, say};
 use arch::VA;
-use loading::Load;
+use refusal::Refusal;
 use survey::Counts;
 
 // What stands in every byte before.
@@ -45,20 +45,6 @@ pub(crate) fn at(line: &[u8], base: u64, f: &[u8], text: &[u8], from: usize) {
 
 // What was counted, written behind the line; nothing of an object that is refused.
 fn counts(line: &[u8], s: Result<Counts, Refusal>) -> Counts {
-    say::load(line, s);
-    match s {
-        Ok(c) => c,
-        Err(_) => Counts {
-            pages: 0,
-            sections: 0,
-            symbols: 0,
-            externs: 0,
-            fixups: 0,
-            skips: 0,
-            passed: 0,
-            file_sections: 0,
-            symbol_records: 0,
-            relocations: 0,
-        },
-    }
+    say::counted_by(line, s);
+    s.unwrap_or_default()
 }

@@ -48,12 +48,11 @@ fn each(text: &[u8]) {
 fn behind(k: u8, next: usize, size: usize) -> usize
     ensures { next ≤ result }
 {
-    if k == CASE {
-        if size < usize::MAX - next {
-            return next + size + 1;
-        }
+    if k == CASE && size < usize::MAX - next {
+        next + size + 1
+    } else {
+        next
     }
-    next
 }
 
 fn one(k: u8, line: &[u8], f: &[u8], text: &[u8], next: usize) {
@@ -61,9 +60,9 @@ fn one(k: u8, line: &[u8], f: &[u8], text: &[u8], next: usize) {
         CASE => lend::at(line, cases::number_at(line, 2), f, text, next),
         AT => lend::at(line, cases::number_at(line, 1), f, text, next),
         LINES => {
-            program::top_up(f);
+            let _ = program::top_up(f);
         }
-        SURVEY => say::survey(line, survey::survey(f)),
+        SURVEY => say::counted_by(line, survey::survey(f)),
         _ => {}
     }
 }

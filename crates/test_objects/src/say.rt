@@ -2,27 +2,17 @@
 ghost use Rattle.std.specs.Prelude.{◌<◌, ◌^◌};
 
 use limits::{EXTERN_BYTES, EXTERN_NUMBER, SYMBOL_BYTES, SYMBOL_HOME, SYMBOL_NUMBER, WORD};
-use loading::Load;
-use nearest::RoutineAnswer;
-use patch::Patch;
-use survey::{Counts, Survey};
+use nearest::Routine;
+use patch::Progress;
+use refusal::Refusal;
+use survey::Counts;
 
-// A line with survey's answer.
-pub(crate) fn survey(line: &[u8], s: Result<Counts, Refusal>) {
+// A line with survey's answer, or load's.
+pub(crate) fn counted_by(line: &[u8], answer: Result<Counts, Refusal>) {
     cases::text(line);
-    match s {
+    match answer {
         Ok(c) => counts(c),
-        Err(n) => cases::refused(n),
-    }
-    cases::end();
-}
-
-// A line with load's answer.
-pub(crate) fn load(line: &[u8], s: Result<Counts, Refusal>) {
-    cases::text(line);
-    match s {
-        Ok(c) => counts(c),
-        Err(n) => cases::refused(n),
+        Err(r) => cases::refused(r),
     }
     cases::end();
 }
@@ -43,10 +33,8 @@ fn counts(c: Counts) {
 
 // A number for each record of a table, by the action's number.
 pub(crate) fn rows(k: u8, table: &[u8], n: u16) {
-    let mut i: u16 = 0;
-    while i < n {
+    for i in 0..n {
         row(k, table, i as usize);
-        i += 1;
     }
 }
 
@@ -74,7 +62,7 @@ fn row(k: u8, table: &[u8], i: usize)
 
 // The words that hold the marks of so many pages.
 pub(crate) fn words(pages: u64) -> u16 {
-    cases::few((cases::few(pages) as u64 + 63) / 64)
+    cases::few(u64::from(cases::few(pages)).div_ceil(64))
 }
 
 // The image's counted part.
@@ -89,10 +77,10 @@ pub(crate) fn laid(image: &[u8], pages: u64) {
 pub(crate) fn patched(line: &[u8], answer: Result<Progress, Refusal>, image: &[u8], pages: u64) {
     cases::text(line);
     match answer {
-        Err(n) => cases::refused(n),
+        Err(r) => cases::refused(r),
         Ok(p) => {
             cases::part(b" position ", p.position);
-            cases::part(b" done ", if p.done { 1 } else { 0 });
+            cases::part(b" done ", u64::from(p.done));
             crc(counted(image, pages));
         }
     }
@@ -101,7 +89,7 @@ pub(crate) fn patched(line: &[u8], answer: Result<Progress, Refusal>, image: &[u
 
 pub(crate) fn routine(answer: Result<Routine, Refusal>) {
     match answer {
-        RoutineErr(n) => cases::refused(n),
+        Err(r) => cases::refused(r),
         Ok(a) => {
             cases::part(b" symbol ", a.symbol);
             cases::part(b" distance ", a.distance);

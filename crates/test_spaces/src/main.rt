@@ -3,10 +3,11 @@
 // answer, so the output is the input with its answers. What is known of where those come from is docs/DECISIONS.md 58.
 #![tactic(auto)]
 
-mod by_address;
-mod by_offset;
-mod from_start;
-mod reads;
+mod questions;
+
+use arch::{RVA, VA};
+use aspace::{Absolute, Sliced};
+use questions::Question;
 
 // How many bytes of image and marks are lent.
 #[derive(Clone, Copy)]
@@ -25,18 +26,11 @@ fn main() {
 
 fn each(text: &[u8], image: &mut [u8], marks: &mut [u8]) {
     let mut lent = Lent { image: 0, marks: 0 };
-    let mut at: usize = 0;
-    while at < text.len() {
-        let end = cases::line_end(text, at);
-        let asked = le::part(text, at, end - at);
+    for with_end in text.split_inclusive(|b| *b == b'\n') {
+        let asked = with_end.strip_suffix(b"\n").unwrap_or(with_end);
         lent = prepared(asked, lent, marks);
         line(asked, lent, image, le::part(marks, 0, lent.marks as usize));
         cases::end();
-        if end < text.len() {
-            at = end + 1;
-        } else {
-            return;
-        }
     }
 }
 
@@ -55,22 +49,37 @@ fn prepared(line: &[u8], lent: Lent, marks: &mut [u8]) -> Lent {
     }
 }
 
+// A place is an offset, the base and an address, or a slice's start and an offset. A slice is only read.
 fn line(line: &[u8], lent: Lent, image: &mut [u8], marks: &[u8]) {
     let size = cases::least(lent.image, image.len());
-    match cases::place(cases::word(line, 0), b"relative absolute sliced image ") {
-        0 => by_offset::relative(line, &mut image[..size], marks),
-        1 => by_address::absolute(line, &mut image[..size], marks),
-        2 => from_start::sliced(line, le::part(image, 0, size), marks),
+    let subject = cases::place(cases::word(line, 0), b"relative absolute sliced image ");
+    match subject {
+        0..=2 => {
+            let question = Question::of(line, subject);
+            let first = cases::number_at(line, question.at);
+            let second = cases::number_at(line, question.at + 1);
+            let image = &mut image[..size];
+            match subject {
+                0 => question.ask(RVA(first), image, marks),
+                1 => question.ask(
+                    Absolute {
+                        base: VA(first),
+                        address: VA(second),
+                    },
+                    image,
+                    marks,
+                ),
+                _ => question.read(
+                    Sliced {
+                        start: RVA(first),
+                        offset: RVA(second),
+                    },
+                    image,
+                    marks,
+                ),
+            }
+        }
         3 => cases::buffer(line, image),
         _ => {}
     }
-}
-
-// The arms of a space have these words' numbers.
-pub(crate) fn asked(line: &[u8]) -> u8 {
-    cases::text(b" =");
-    cases::place(
-        cases::word(line, 1),
-        b"write write_u16 write_u32 write_u64 write_i32 write_i64 read_into read_bytes read_ascii read_u8 read_u16 read_u32 read_u64 read_pointer_x32 read_pointer_x64 ",
-    )
 }

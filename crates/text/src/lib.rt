@@ -2,6 +2,7 @@
 #![tactic(auto)]
 
 ghost use Rattle.std.specs.Prelude.{◌≡◌, [], ◌∷◌, ◌++◌, ◌%◌, ◌≤◌};
+ghost use Rattle.le.specs.Le.{part};
 ghost use Rattle.text.specs.Text.{glyph, number, decimal_text, hex_text, signed_text, letter_or as mark_of, permissions_text, word, Wrote};
 
 // A lent buffer, and the place in it where the next byte goes. What has no room is left out. Names are bytes of any kind, so it is
@@ -13,6 +14,13 @@ pub struct Writer<'a> {
 }
 
 impl Writer<'_> {
+    // What is put from the buffer's front to the place.
+    pub fn written(&self) -> &[u8]
+        ensures { result.now ≡ part self.now.out.now 0 self.now.at }
+    {
+        le::part(self.out, 0, self.at)
+    }
+
     // One byte.
     #[tactic(auto, using(crate::proofs::Laws::byte_ways))]
     pub fn byte(&mut self, b: u8)

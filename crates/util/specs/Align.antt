@@ -51,7 +51,7 @@ up_more i b h n =
     let d : (i + (b - 1)) / b ≡ i / b + 1 = div-eq_of_lt-le b (omega arith) (omega arith) in
     rw (up_is i b h, d, q) (omega arith)
 
--- ---- the ways through `align`
+-- ---- what `align` gives: of the rounded number what 64 bits hold
 module _ (i b : ℕ) (fits : i < 2 ^ 64) where
   pub align_none : b ≤ 1 → i ≡ round_up i b % 2 ^ 64
   align_none h = rw (up_one i b h, mod-eq_of_lt fits)
@@ -74,4 +74,4 @@ pub align_exact : (i b : ℕ) → i + b ≤ 2 ^ 64 → i < 2 ^ 64 → round_up i
 align_exact i b f g =
     ⊎_elim (λ h. rw (up_one i b h) (mod-eq_of_lt g)) (λ h. mod-eq_of_lt (lt_of_lt_of_le (up_near i b h) f)) (le_or_lt b 1)
 
-pub ruleset align_ways = (align_none, align_same, align_more, align_up)
+pub ruleset align_ways = (align_none, align_up)

@@ -14,17 +14,11 @@ use Rattle.verdict.specs.declared.answer.Verdict.{Verdict}
 use Rattle.verdict.specs.declared.answer.Verdict.TheVariants.{TooLarge, Refused, Lines}
 use Rattle.verdict.specs.Verdict.{MOST_BYTES, MOST_PAGES, MOST_SECTIONS, MOST_SYMBOLS, MOST_RELOCATIONS, fits, verdict_by, verdict_of}
 
--- ---- the four limits behind the size
-pub fits_is : (c : Counts) (r x y : Bool) → r ≡ (leb c.pages MOST_PAGES && x) → x ≡ (leb c.file_sections MOST_SECTIONS && y) → y ≡ (leb c.symbol_records MOST_SYMBOLS && leb c.relocations MOST_RELOCATIONS)
-    → r ≡ fits c
-unfolding fits
-fits_is c r x y e d w = rw (← w, ← d) e
-
 -- ---- survey's answer
 module _ (s : Result Counts Refusal) where
-  pub says_refused : (n : ℕ) → s ≡ Err n → Refused n ≡ verdict_by s
+  pub says_refused : (r : Refusal) → s ≡ Err r → Refused r ≡ verdict_by s
   unfolding verdict_by
-  says_refused n e = rw e
+  says_refused r e = rw e
 
   module _ (c : Counts) (is : s ≡ Ok c) (b : Bool) (fit : b ≡ fits c) where
     pub says_lines : b ≡ true → Lines c ≡ verdict_by s

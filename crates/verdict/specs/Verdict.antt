@@ -39,7 +39,7 @@ fits c =
 
 -- by survey's answer
 unfoldable pub verdict_by : Result Counts Refusal → Verdict
-verdict_by (Err n) = Refused n
+verdict_by (Err r) = Refused r
 verdict_by (Ok c) = pick (fits c) (Lines c) TooLarge
 
 -- by the file: its size comes before everything

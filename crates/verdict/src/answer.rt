@@ -1,10 +1,11 @@
 // Which of its three outputs the program prints.
+use refusal::Refusal;
 use survey::Counts;
 
-// Too large for the program, refused with its number, or the lines of a load with these counts.
+// Too large for the program, refused, or the lines of a load with these counts.
 #[derive(Clone, Copy)]
 pub enum Verdict {
     TooLarge,
-    Refused(u64),
+    Refused(Refusal),
     Lines(Counts),
 }

@@ -1,13 +1,10 @@
 -- The loop that puts words. Assumes nothing.
 use mathlib.Core.Path.{◌≡◌, refl, sym, ap, ◌∙◌}
-use mathlib.Core.Bool.{Bool, true, false}
 use mathlib.Core.List.{List, [], ◌∷◌, ◌++◌, append-nil}
 use mathlib.Core.Logic.{⊎_elim}
 use Prim.Native.Nat.{ℕ, suc, ◌+◌, ◌-◌, ◌*◌, ◌/◌, ◌≤◌, ◌<◌, min}
 use native.Mathlib.Omega.{arith}
 use native.Mathlib.Numerals.{add-one}
-use borrow.Author.Tests.{le-leb, lt-leb, leb-true}
-use lib.Dec.{leb}
 use lib.ListN.{get_or, length, take, drop, take-append-drop}
 use lib.Seq.{take-suc, take_all, length-take-le}
 use Rattle.std.specs.Int.{bytes_low_first}
@@ -66,22 +63,6 @@ module _ (ws : List ℕ) where
   pub inside_end : (l b : List ℕ) (at i : ℕ) → b ≡ splice l at (word_bytes (take i ws)) → length ws ≤ i → b ≡ splice l at (word_bytes ws)
   inside_end l b at i e a = e ∙ ap (λ (x : List ℕ). splice l at (word_bytes x)) (take_all i ws a)
 
-pub ruleset words_loop = (words_none, words_again, words_end)
+pub ruleset words_loop = (words_none, words_again)
 
 pub ruleset inside_loop = (words_none, inside_again, inside_end)
-
--- ---- the test of room
-module _ (len at n : ℕ) where
-  pub fits_by : at ≤ len → leb n ((len - at) / WORD) ≡ leb (at + WORD * n) len
-  fits_by h =
-      ⊎_elim (λ (a : n ≤ (len - at) / WORD). le-leb n ((len - at) / WORD) a ∙ sym (le-leb (at + WORD * n) len (omega arith)))
-      (λ (a : (len - at) / WORD < n). lt-leb n ((len - at) / WORD) a ∙ sym (lt-leb (at + WORD * n) len (omega arith)))
-      (le_or_lt n ((len - at) / WORD))
-
-  pub fits_not : len < at → false ≡ leb (at + WORD * n) len
-  fits_not h = sym (lt-leb (at + WORD * n) len (omega arith))
-
-  pub fits_says : (r : Bool) → r ≡ leb (at + WORD * n) len → r ≡ true → at + WORD * n ≤ len
-  fits_says r e y = leb-true (at + WORD * n) len (sym e ∙ y)
-
-pub ruleset fitting = (fits_by, fits_not, fits_says)

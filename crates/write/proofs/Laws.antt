@@ -1,50 +1,59 @@
--- The ways through the writers. Assumes nothing.
-use Rattle.refusal.specs.Refusal.{Code}
-use Rattle.std.specs.Prelude.{Ok, Err}
-use mathlib.Core.Path.{◌≡◌}
-use mathlib.Core.Bool.{Bool, true, false}
-use mathlib.Core.List.{List}
-use Prim.Native.Nat.{ℕ, ◌-◌, ◌*◌, ◌^◌, ◌<◌}
-use native.Mathlib.Omega.{arith}
-use lib.Dec.{leb}
-use lib.ListN.{length}
+-- The ways through the writers, as the code asks them.
+use Rattle.refusal.specs.declared.Refusal.{Refusal}
+use Rattle.refusal.specs.declared.Refusal.TheVariants.{NotMapped}
+use Rattle.std.specs.Prelude.{◌≡◌, refl, Bool, true, false, List, ℕ, ◌<◌, ◌≤◌, length, leb, Option, Some, None, Result, Ok, Err, ok_or, IfOk, IfErr, OnOk}
+use Rattle.std.proofs.Common.{sym, ◌∙◌, le-leb}
+use Rattle.std.proofs.lemmas.Bool.{lt-leb}
 use Rattle.util.specs.Pick.{pick}
-use Rattle.le.specs.Le.{splice}
-use Rattle.refusal.specs.Refusal.{Leaves}
-use Rattle.pagemap.specs.Pages.{storage_ok, span_mapped}
-use Rattle.aspace.specs.Space.{offset_at}
-use Rattle.aspace.specs.SpaceLaws.{offset_span, offset_there, leaves_same}
-use Rattle.write.specs.Write.{MAX_WRITE, write_code, write_code_at}
-use Rattle.write.specs.WriteLaws.{write_span}
+use Rattle.arch.specs.declared.RVA.{RVA}
+use Rattle.arch.specs.Address.{rva}
+use Rattle.refusal.specs.Refusal.{Code, PASSES, STORAGE, TOO_LONG, unless_refused, Leaves}
+use Rattle.pagemap.specs.Pages.{storage_ok}
+use Rattle.aspace.specs.Places.{span_there}
+use Rattle.write.specs.Write.{MAX_WRITE, write_code_there}
 
-module _ (size : ℕ) (marks : List ℕ) (o n : ℕ) (ok : Bool) (is : ok ≡ storage_ok size (length marks)) where
-  pub write_bad : ok ≡ false → 13 ≡ write_code size marks o n
-  unfolding write_code pick
+module _ (r : Bool) (size : ℕ) (marks : List ℕ) (o n : ℕ) (ok : Bool) (is : ok ≡ storage_ok size (length marks)) where
+  pub write_bad : ok ≡ false → write_code_there r size marks o n ≡ STORAGE
+  unfolding write_code_there pick
   write_bad e = rw (← is, e)
 
-  pub write_long : ok ≡ true → leb n MAX_WRITE ≡ false → 18 ≡ write_code size marks o n
-  unfolding write_code pick
-  write_long e t = rw (← is, e, t)
+  pub write_long : ok ≡ true → MAX_WRITE < n → write_code_there r size marks o n ≡ TOO_LONG
+  unfolding write_code_there pick
+  write_long e h = rw (← is, e, lt-leb n MAX_WRITE h)
 
-  pub write_in : (s : Bool) → ok ≡ true → leb n MAX_WRITE ≡ true → s ≡ span_mapped size marks o n → s ≡ true → 0 ≡ write_code size marks o n
-  unfolding write_code pick
-  write_in s e t q p = rw (← is, e, t, ← q, p)
+  module _ (x : Option RVA) (y : Result RVA Refusal) (yes : ok ≡ true) (few : n ≤ MAX_WRITE) (e : x ≡ pick (span_there r size marks o n) (Some (rva o)) None) (q : y ≡ ok_or x NotMapped) where
+    there_by : (t : Bool) → span_there r size marks o n ≡ t → OnOk (ok_or (pick t (Some (rva o)) None) NotMapped) (write_code_there r size marks o n ≡ PASSES)
+    unfolding write_code_there pick
+    there_by true h = rw (← is, yes, le-leb n MAX_WRITE few, h)
+    there_by false h = tt
 
-  pub write_out : (s : Bool) → ok ≡ true → leb n MAX_WRITE ≡ true → s ≡ span_mapped size marks o n → s ≡ false → 15 ≡ write_code size marks o n
-  unfolding write_code pick
-  write_out s e t q p = rw (← is, e, t, ← q, p)
+    pub write_there : OnOk y (write_code_there r size marks o n ≡ PASSES)
+    write_there = rw (q, e) (there_by (span_there r size marks o n) refl)
 
-pub ruleset codes = (write_bad, write_long, write_in, write_out)
+    nowhere_by : (t : Bool) → span_there r size marks o n ≡ t → IfErr (ok_or (pick t (Some (rva o)) None) NotMapped) (λ k. write_code_there r size marks o n ≡ Err k)
+    unfolding write_code_there pick
+    nowhere_by true h = tt
+    nowhere_by false h = rw (← is, yes, le-leb n MAX_WRITE few, h)
 
--- ---- by address is by offset; what is refused leaves the same, wherever it would have been written
-module _ (image marks : List ℕ) (base a n o : ℕ) (fits : length image * 1 < 2 ^ 63) (is : o ≡ offset_at base a n) where
-  write_by : write_code (length image) marks o n ≡ write_code_at (length image) marks base a n
-  unfolding write_code write_code_at
-  write_by = rw (offset_span (length image) marks base a n o (omega arith) is)
+    pub write_nowhere : IfErr y (λ k. write_code_there r size marks o n ≡ Err k)
+    write_nowhere = rw (q, e) (nowhere_by (span_there r size marks o n) refl)
 
-  there_written : write_code (length image) marks o n ≡ 0 → o ≡ a - base
-  there_written e = offset_there (length image) marks base a n o (omega arith) is (write_span (length image) marks o n e)
+at_by : (o : ℕ) (t : Bool) → IfOk (ok_or (pick t (Some (rva o)) None) NotMapped) (λ p. p.0 ≡ o)
+unfolding pick
+at_by o true = refl
+at_by o false = tt
 
-  pub write_at : (v x : List ℕ) (r : Code) → Leaves (write_code (length image) marks o n) image (splice image o v) x r
-      → Leaves (write_code_at (length image) marks base a n) image (splice image (a - base) v) x r
-  write_at v x r l = rw (← write_by) (leaves_same _ image (splice image o v) (splice image (a - base) v) x r (λ z. rw (there_written z)) l)
+pub write_at : (t : Bool) (o : ℕ) (x : Option RVA) (y : Result RVA Refusal) → y ≡ ok_or x NotMapped → x ≡ pick t (Some (rva o)) None → IfOk y (λ p. p.0 ≡ o)
+write_at t o x y q e = rw (q, e) (at_by o t)
+
+pub ruleset codes = (write_bad, write_long, write_there, write_nowhere)
+
+-- ---- what a writer says and leaves, by the code
+module _ (code : Code) (old new : List ℕ) where
+  pub leaves_kept : (r : Refusal) (y : Code) → code ≡ Err r → y ≡ Err r → Leaves code old new old y
+  unfolding unless_refused
+  leaves_kept r y e q = record { says = q ∙ sym e; leaves = rw e }
+
+  pub leaves_new : (x : List ℕ) → code ≡ PASSES → x ≡ new → Leaves code old new x (Ok tt)
+  unfolding unless_refused
+  leaves_new x e q = record { says = sym e; leaves = rw e q }

@@ -1,5 +1,5 @@
 use Rattle.std.proofs.Common.{rules}
-use Rattle.image.proofs.Laws.{slot_laid}
+use Rattle.image.proofs.Laws.{slot_laid, slot_past}
 use Rattle.image.proofs.lay_slot.Goals as goal
 
 pub returns-in-Some : goal.returns-in-Some

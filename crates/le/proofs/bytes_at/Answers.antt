@@ -1,4 +1,4 @@
-use Rattle.std.proofs.Common.{rules, arith, ◌≡◌, ℕ, ◌+◌, ◌-◌, get_or, take, drop, length, ◌∙◌}
+use Rattle.std.proofs.Common.{rules, arith, ◌-◌, get_or, take, drop, length, ◌∙◌}
 use Rattle.le.proofs.Laws.{from_fn_gives, rest_at}
 use Rattle.le.proofs.bytes_at.Goals as goal
 
