@@ -1,5 +1,6 @@
 -- The ways through the code. Assumes nothing.
-use Rattle.refusal.specs.declared.Refusal.TheVariants.{Target, Place, Base, Externs, Pages, Storage}
+use Rattle.refusal.specs.declared.Refusal.TheVariants.{Place, Base, Externs, Pages, Storage}
+use Rattle.refusal.specs.declared.Refusal.TheVariants as refusals
 use Rattle.refusal.specs.declared.Refusal.{Refusal}
 use Rattle.std.specs.Prelude.{Result, Ok, Err, Option, Some, None, ok_or}
 use mathlib.Core.Path.{◌≡◌, refl, sym, ap, ◌∙◌}
@@ -102,8 +103,8 @@ pub ruleset room_ways = (room_refused, room_yes, room_no)
 -- ---- checks that pass hand on
 targets_pass : (t : Tally) → first_failed (target_checks t) ≡ PASSES → (eqb t.refused 0 ≡ true) × (eqb t.outside 0 ≡ true)
 targets_pass t e =
-    let a : first_failed (check (eqb t.outside 0) PLACE ∷ []) ≡ PASSES = checks_hold _ Target (check (eqb t.outside 0) PLACE ∷ []) e in
-    (check_holds _ Target (check (eqb t.outside 0) PLACE ∷ []) e, check_holds _ Place [] a)
+    let a : first_failed (check (eqb t.outside 0) PLACE ∷ []) ≡ PASSES = checks_hold _ refusals.Target (check (eqb t.outside 0) PLACE ∷ []) e in
+    (check_holds _ refusals.Target (check (eqb t.outside 0) PLACE ∷ []) e, check_holds _ Place [] a)
 
 targets_rest : (t : Tally) (cs : List Check) → first_failed (target_checks t) ≡ PASSES → first_failed (target_checks t ++ cs) ≡ first_failed cs
 unfolding first_failed pick

@@ -32,8 +32,9 @@ pub struct Lengths {
 fn layout_room(c: Counts, l: Lengths) -> bool
     ensures { result ≡ layout_room c l }
 {
+    let words = marks::words_for(c.pages);
     c.pages <= l.image as u64 / PAGE_SIZE
-        && marks::words_for(c.pages) <= l.marks as u64 / marks::WORD_BYTES
+        && words <= l.marks as u64 / marks::WORD_BYTES
         && c.sections <= l.sections as u64 / limits::SECTION_BYTES as u64
 }
 
