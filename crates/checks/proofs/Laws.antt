@@ -13,6 +13,8 @@ use Rattle.layout.specs.Layout.{pages_to}
 use Rattle.object.specs.declared.Header.{Header}
 use Rattle.object.specs.declared.Symbol.{Symbol}
 use Rattle.object.specs.Symbol.{symbol_of, place_of}
+use Rattle.object.specs.SymbolLaws.{at_own, at_other, left_none, left_past}
+use Rattle.util.specs.Prefix.{all_none, all_again}
 use Rattle.kinds.specs.declared.Place.{Place}
 use Rattle.kinds.specs.declared.Place.TheVariants.{In, Undefined, Common, Absolute, Nowhere, Other}
 use Rattle.kinds.specs.Symbol.{place_section, section_by}
@@ -44,10 +46,6 @@ pub ruleset within_ways = (within_low, within_negative)
 pub number_is : (f : List ℕ) (h : Header) (s : Symbol) (j : ℕ) {r : Bool} → r ≡ place_within h.sections (place_of s) → s ≡ symbol_of f h j → r ≡ number_ok f h j
 number_is f h s j e read = rw read at e
 
--- ---- 8 and 12
-pub pages_few : (undef n : ℕ) → n ≡ pages_to undef → leb n MAX_PAGES ≡ leb (pages_to undef) MAX_PAGES
-pages_few undef n q = rw q
+pub ruleset own_number = (at_own, at_other, number_is)
 
-pub base_is : (base : ℕ) {r s : Bool} → r ≡ (s && leb base MAX_BASE) → s ≡ on_page base → r ≡ base_ok base
-unfolding base_ok
-base_is base e a = rw (← a) e
+pub ruleset number_loop = (all_none, all_again, left_none, left_past)

@@ -1,5 +1,5 @@
 -- The ways through the code. Assumes nothing.
-use Rattle.std.proofs.Common.{Ordering, Less, Equal, Greater}
+use Rattle.std.proofs.Common.{Ordering, Less, Equal, Greater, is_lt}
 use mathlib.Core.Path.{◌≡◌, refl, sym, ap, ◌∙◌}
 use mathlib.Core.Bool.{Bool, true, false, ◌&&◌, ◌||◌, and-false}
 use mathlib.Core.List.{List, [], ◌∷◌}
@@ -48,22 +48,19 @@ module _ (l : List ℕ) (at v : ℕ) where
 pub ruleset one_code = (code_in, code_past)
 
 -- ---- a section by name
+lt_lower : (o : Ordering) → is_lt o ≡ is_lower o
+unfolding is_lower
+lt_lower Less = refl
+lt_lower Equal = refl
+lt_lower Greater = refl
+
 module _ (f : List ℕ) (h : Header) (name : List ℕ) where
   module _ (x : ℕ) (t : Span) (o : Ordering) (is : t ≡ section_span f h x) (by : o ≡ compare_bytes (span_text f t) name) where
     order_is : o ≡ compare_bytes (section_text f h x) name
     order_is = rw (← is) by
 
-    pub before_less : o ≡ Less → true ≡ lower_than (section_text f h) name x
-    unfolding is_lower
-    before_less e = rw (← order_is, e)
-
-    pub before_equal : o ≡ Equal → false ≡ lower_than (section_text f h) name x
-    unfolding is_lower
-    before_equal e = rw (← order_is, e)
-
-    pub before_greater : o ≡ Greater → false ≡ lower_than (section_text f h) name x
-    unfolding is_lower
-    before_greater e = rw (← order_is, e)
+    pub before_is : (r : Bool) → r ≡ is_lt o → r ≡ lower_than (section_text f h) name x
+    before_is r e = e ∙ lt_lower o ∙ ap is_lower order_is
 
   module _ (t : Bool) (is : t ≡ are_same_bytes name UNDEF) where
     pub undef_without : t ≡ true → UNDEF_EXTERN ≡ named_code (undef_named name) false
@@ -99,13 +96,9 @@ module _ (f : List ℕ) (h : Header) (name : List ℕ) where
     there_not n =
         ⊎_elim (λ t. absurd (n (order_there ∙ same_equal (section_text f h i) name (same_bytes (section_text f h i) name t)))) (λ t. t) (yes_no (are_same_bytes (section_text f h i) name))
 
-    pub there_less : o ≡ Less → c ≡ named_code (undef_named name) false → c ≡ code_there f h name i
+    pub there_other : (o ≡ Equal → ⊥) → c ≡ named_code (undef_named name) false → c ≡ code_there f h name i
     unfolding code_there pick
-    there_less e d = rw (there_not (λ z. let y : ◌≡◌ {A = ℕ} 0 1 = cc in absurd (omega arith))) d
-
-    pub there_greater : o ≡ Greater → c ≡ named_code (undef_named name) false → c ≡ code_there f h name i
-    unfolding code_there pick
-    there_greater e d = rw (there_not (λ z. let y : ◌≡◌ {A = ℕ} 0 1 = cc in absurd (omega arith))) d
+    there_other n d = rw (there_not n) d
 
   -- what stands at the end of the search
   module _ (ranks : List ℕ) (p : ℕ) (is : ranks ≡ section_ranks f h) (ends : Halved (lower_than (section_text f h) name) ranks p 0) where
@@ -145,9 +138,7 @@ module _ (f : List ℕ) (h : Header) (name : List ℕ) where
         let long = in_order.long in
         q ∙ sym (ap (λ (x : TableRecord). named_code x (some_section_named f h name)) (none_at (λ z. absurd (omega arith))) ∙ ap (named_code (undef_named name)) (without_at (λ z. absurd (omega arith))))
 
-pub ruleset order_ways = (before_less, before_equal, before_greater)
-
-pub ruleset name_ways = (undef_without, extern_without, undef_unloaded, slot_unloaded, of_loaded, there_equal, there_less, there_greater, pick_no, flag_no)
+pub ruleset name_ways = (undef_without, extern_without, undef_unloaded, slot_unloaded, of_loaded, there_equal, there_other, pick_no, flag_no)
 
 pub ruleset by_name = (name_there, name_past)
 

@@ -20,6 +20,7 @@ use object::{Header, Symbol};
 use rules::Rule;
 use std::cmp::Ordering;
 
+// Numbers and no enum: a code of 16 bits is kept for each of 16,384 records in fixed memory, and those from HOMES on have a number of their own added.
 // Codes that stand for one thing; 0 is no record. This one: an auxiliary record, which is refused.
 const AUXILIARY: u16 = 1;
 
@@ -60,8 +61,7 @@ pub const SLOTS: u32 = 0xC000;
 pub fn code_at(codes: &[u16], j: u32) -> u16
     ensures { result ≡ get_or codes.now j 0 }
 {
-    let at = j as usize;
-    if at < codes.len() { codes[at] } else { 0 }
+    codes.get(j as usize).map_or(0, |c| *c)
 }
 
 // Another code for record j.
@@ -75,22 +75,20 @@ pub fn put_code(codes: &mut [u16], j: u32, c: u16)
 }
 
 // Whether section x's name comes before that one.
+#[tactic(auto, using(crate::proofs::Laws::before_is))]
 fn is_before(f: &[u8], h: Header, name: Span, x: u16) -> bool
     ensures { result ≡ lower_than (section_text f.now h) (span_text f.now name) x }
 {
-    match order::compare(f, names::section_span(f, h, x as u32), name) {
-        Ordering::Less => true,
-        Ordering::Equal => false,
-        Ordering::Greater => false,
-    }
+    order::compare(f, names::section_span(f, h, u32::from(x)), name).is_lt()
 }
 
 // Where the names that come before that one end, in the sections' order: of the n from lo the middle one decides.
+// Halving, and no `for`: where the search goes on depends on each answer.
 fn first_named(f: &[u8], h: Header, ranks: &[u16], name: Span) -> usize
     requires { ranks.now ≡ section_ranks f.now h }
     ensures { Halved (lower_than (section_text f.now h) (span_text f.now name)) ranks.now result 0 }
 {
-    let mut lo: usize = 0;
+    let mut lo = 0;
     let mut n = ranks.len();
     while 0 < n {
         let half = n / 2;
@@ -128,37 +126,37 @@ fn code_unloaded(f: &[u8], name: Span) -> u16
 }
 
 // Of one that section i has, which stands first of those that have it.
+#[tactic(auto, using(crate::proofs::Laws::name_ways))]
 fn code_of(f: &[u8], h: Header, name: Span, i: u16) -> u16
     ensures { result ≡ pick (loaded f.now h i) (named_code (Loaded i) true) (named_code (undef_named (span_text f.now name)) true) }
 {
-    if object::is_loaded(f, h, i as u32) {
-        (i as u32 % SPAN + RECORDS) as u16
+    if object::is_loaded(f, h, u32::from(i)) {
+        (u32::from(i) % SPAN + RECORDS) as u16
     } else {
         code_unloaded(f, name)
     }
 }
 
 // If section i has it, the code by that section; else no section has it.
+#[tactic(auto, using(crate::proofs::Laws::name_ways))]
 fn code_there(f: &[u8], h: Header, name: Span, i: u16) -> u16
     ensures { result ≡ code_there f.now h (span_text f.now name) i }
 {
-    match order::compare(f, names::section_span(f, h, i as u32), name) {
-        Ordering::Less => code_without(f, name),
+    match order::compare(f, names::section_span(f, h, u32::from(i)), name) {
         Ordering::Equal => code_of(f, h, name, i),
-        Ordering::Greater => code_without(f, name),
+        _ => code_without(f, name),
     }
 }
 
 // A section by its name: its record, UNDEF's, or the slot.
+#[tactic(auto, using(crate::proofs::Laws::by_name))]
 fn code_by_name(f: &[u8], h: Header, ranks: &[u16], name: Span) -> u16
     requires { ranks.now ≡ section_ranks f.now h }
     ensures { result ≡ code_by_name f.now h (span_text f.now name) }
 {
-    let p = first_named(f, h, ranks, name);
-    if p < ranks.len() {
-        code_there(f, h, name, ranks[p])
-    } else {
-        code_without(f, name)
+    match ranks.get(first_named(f, h, ranks, name)) {
+        Some(&i) => code_there(f, h, name, i),
+        None => code_without(f, name),
     }
 }
 
@@ -187,21 +185,19 @@ fn draft_code(s: Symbol, left: u8) -> u16
 }
 
 // One pass over the symbol records. The answer: for some of them a section is looked for by name.
+#[tactic(auto, using(crate::proofs::Laws::draft_loop))]
 fn fill_drafts(f: &[u8], h: Header, codes: &mut [u16]) -> bool
     ensures codes_after { codes.new ≡ splice codes.old 0 (drafts_to f.now h h.symbols) }
     ensures value { result ≡ some_drafts f.now h h.symbols }
 {
-    let n = h.symbols;
     let mut named = false;
-    let mut left: u8 = 0;
-    let mut j: u32 = 0;
-    while j < n {
+    let mut left = 0;
+    for j in 0..h.symbols {
         let s = object::read_symbol(f, h, j);
         let code = draft_code(s, left);
-        named = util::either(named, code == NAMED);
+        named = named || code == NAMED;
         put_code(codes, j, code);
         left = object::left_by(left, s.auxiliaries);
-        j += 1;
     }
     named
 }
@@ -219,16 +215,14 @@ fn settled_code(f: &[u8], h: Header, ranks: &[u16], c: u16, j: u32) -> u16
 }
 
 // A second pass, for those whose sections are looked for by name.
+#[tactic(auto, using(crate::proofs::Laws::name_loop))]
 fn name_codes(f: &[u8], h: Header, ranks: &[u16], codes: &mut [u16])
     requires { ranks.now ≡ section_ranks f.now h }
     ensures { codes.new ≡ splice codes.old 0 (final_codes f.now h codes.old h.symbols) }
 {
-    let n = h.symbols;
-    let mut j: u32 = 0;
-    while j < n {
+    for j in 0..h.symbols {
         let code = settled_code(f, h, ranks, code_at(codes, j), j);
         put_code(codes, j, code);
-        j += 1;
     }
 }
 
@@ -263,7 +257,7 @@ pub fn fill_codes(f: &[u8], h: Header, codes: &mut [u16])
 fn is_extern(c: u16) -> bool
     ensures { result ≡ is_extern c }
 {
-    util::either(c == EXTERN, c == UNDEF_EXTERN)
+    matches!(c, EXTERN | UNDEF_EXTERN)
 }
 
 // A relocation to symbol j puts its name among the externs.

@@ -252,8 +252,8 @@ fn fill(
     ensures left_for { LeftFor f.now h codes.old codes.new slots.new keys.new result }
 {
     let mut count = 0;
-    for i in 0..h.sections {
-        count = add_records(f, h, codes, slots, keys, count, u32::from(i))?;
+    for i in 0..u32::from(h.sections) {
+        count = add_records(f, h, codes, slots, keys, count, i)?;
     }
     Some(count)
 }

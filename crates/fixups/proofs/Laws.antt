@@ -42,9 +42,9 @@ module _ (w address : ℕ) (t : RelocationType) (g : Target) where
   unfolding outcome_at word_home pick
   home_none e = rw e
 
-  pub home_some : (x : Outcome) (s : RVA) → (w ≡ 0 → ⊥) → s ≡ rva (word_start w) → x ≡ resolved g t (rva (s.0 + address)) → x ≡ outcome_at (word_home w) address t g
+  pub home_some : (x : Outcome) (s : RVA) (n : ℕ) → (w ≡ 0 → ⊥) → s ≡ rva (word_start w) → x ≡ resolved g t (rva (s.0 + n)) → n ≡ address → x ≡ outcome_at (word_home w) address t g
   unfolding outcome_at word_home pick
-  home_some x s n e q = rw (ne_eqb w 0 n) (rw e at q)
+  home_some x s n z e q a = rw (ne_eqb w 0 z) (rw (e, a) at q)
 
 pub ruleset outcome_ways = (home_none, home_some)
 

@@ -112,8 +112,8 @@ fn tally_with(r: Resolver, pages: u32) -> Tally
         fixups: 0,
         outside: 0,
     };
-    for i in 0..r.header.sections {
-        sum = with_next(r, pages, sum, u32::from(i));
+    for i in 0..u32::from(r.header.sections) {
+        sum = with_next(r, pages, sum, i);
     }
     sum
 }

@@ -51,18 +51,20 @@ pub ruleset sections_loop = (sections_none, sections_again, sections_end, sectio
 
 -- ---- slots
 module _ (base undef : ℕ) (image : List ℕ) where
-  pub slot_laid : (e v : ℕ) (x : Option RVA) (o : RVA) (b : List ℕ) → x ≡ offset_plus undef (SLOT_SIZE * e) → x ≡ Some o → b ≡ splice image o.0 (le SLOT_SIZE v) → v ≡ (base + o.0) % 2 ^ 64 → b ≡ slot_step base undef image e
+  pub slot_laid : (e v n : ℕ) (x : Option RVA) (o : RVA) (b : List ℕ) → x ≡ offset_plus undef (SLOT_SIZE * n) → n ≡ e → x ≡ Some o → b ≡ splice image o.0 (le SLOT_SIZE v) → v ≡ (base + o.0) % 2 ^ 64 → b ≡ slot_step base undef image e
   unfolding slot_step
-  slot_laid e v x o b q t d w =
+  slot_laid e v n x o b q0 ne t d w =
+      let q : x ≡ offset_plus undef (SLOT_SIZE * e) = rw ne at q0 in
       let p : undef + SLOT_SIZE * e ≡ o.0 = plus_tells undef (SLOT_SIZE * e) o (sym q ∙ t) in
       let z : base + undef + SLOT_SIZE * e ≡ base + o.0 = omega arith in
       let low : v % 256 ^ 4 ≡ (base + o.0) % 256 ^ 4 = omega arith in
       let y : le SLOT_SIZE v ≡ le SLOT_SIZE (base + o.0) = sym (le_low SLOT_SIZE v) ∙ ap (le SLOT_SIZE) low ∙ le_low SLOT_SIZE (base + o.0) in
       rw (z, p, ← y) d
 
-  pub slot_past : (e : ℕ) (x : Option RVA) → x ≡ offset_plus undef (SLOT_SIZE * e) → x ≡ None → length image < 2 ^ 64 → image ≡ slot_step base undef image e
+  pub slot_past : (e n : ℕ) (x : Option RVA) → x ≡ offset_plus undef (SLOT_SIZE * n) → n ≡ e → x ≡ None → length image < 2 ^ 64 → image ≡ slot_step base undef image e
   unfolding slot_step
-  slot_past e x q t k =
+  slot_past e n x q0 ne t k =
+      let q : x ≡ offset_plus undef (SLOT_SIZE * e) = rw ne at q0 in
       let p : 2 ^ 64 ≤ undef + SLOT_SIZE * e = plus_past undef (SLOT_SIZE * e) (sym q ∙ t) in
       sym (splice_past image (undef + SLOT_SIZE * e) _ (omega arith))
 

@@ -32,6 +32,9 @@ use limits::{
 use survey::Counts;
 use text::Writer;
 
+// What the record of UNDEF has in place of a section's number.
+const UNDEF_NUMBER: u64 = 0;
+
 // Word w of record i, where a record has `width` words.
 #[tactic(auto, unfolding(words::specs::Words::word_of))]
 fn word(table: &[u8], width: u8, i: u32, w: u8) -> u64
@@ -61,7 +64,7 @@ fn section_named(t: &[u8], i: u32, name: &[u8], out: &mut Writer)
 fn section_at(f: &[u8], t: &[u8], i: u32, out: &mut Writer)
     ensures { Wrote out.old (section_line_at f.now t.now i) out.new }
 {
-    if word(t, SECTION_WORDS, i, SECTION_FILE_NUMBER) == 0 {
+    if word(t, SECTION_WORDS, i, SECTION_FILE_NUMBER) == UNDEF_NUMBER {
         section_named(t, i, b"UNDEF", out);
     } else {
         let name = le::part(

@@ -1,7 +1,7 @@
 -- The pass over all relocations. Assumes nothing.
 use Rattle.std.specs.Prelude.{Option}
 use Rattle.arch.specs.declared.RVA.{RVA}
-use Rattle.std.proofs.Common.{◌≡◌, ℕ, zero, suc, ◌+◌, ◌*◌, ◌%◌, ◌^◌, ◌<◌, ◌≤◌, List, [], ◌∷◌, ◌++◌, length, get_or, refl, ap, ◌∙◌, add-one, arith, length-append}
+use Rattle.std.proofs.Common.{◌≡◌, ℕ, zero, suc, ◌+◌, ◌*◌, ◌%◌, ◌^◌, ◌<◌, ◌≤◌, List, [], ◌∷◌, ◌++◌, length, get_or, ◌⊎◌, ⊎_elim, refl, ap, ◌∙◌, add-one, arith, length-append}
 use Rattle.util.specs.Fold.{fold_records, fold_sections, records_same}
 use Rattle.limits.specs.Records.{FIXUP_BYTES, SKIP_BYTES}
 use Rattle.le.specs.Le.{splice, splice_next, splice_long}
@@ -48,21 +48,13 @@ length_skip i k s = length_words (skip_words i k s)
 
 -- ---- one outcome
 module _ (base i k : ℕ) (o : Outcome) (p : Rows) (b c : List ℕ) where
-  pub step_passed : o ≡ Passed → Step p (fix_bytes base o) (skip_bytes i k o) b b c c p 1
-  step_passed e =
-      rw e
-      (record {
+  pub step_kept : (o ≡ Passed) ⊎ (o ≡ Refused) → Step p (fix_bytes base o) (skip_bytes i k o) b b c c p 1
+  step_kept e =
+      let kept : Step p [] [] b b c c p 1 = record {
         written = record { fixes = splice_nothing b (FIXUP_BYTES * p.fixups); skips = splice_nothing c (SKIP_BYTES * p.skips); fix_count = omega arith; skip_count = omega arith };
         near = record { fixes = omega arith; skips = omega arith };
-      })
-
-  pub step_refused : o ≡ Refused → Step p (fix_bytes base o) (skip_bytes i k o) b b c c p 1
-  step_refused e =
-      rw e
-      (record {
-        written = record { fixes = splice_nothing b (FIXUP_BYTES * p.fixups); skips = splice_nothing c (SKIP_BYTES * p.skips); fix_count = omega arith; skip_count = omega arith };
-        near = record { fixes = omega arith; skips = omega arith };
-      })
+      } in
+      ⊎_elim (λ q. rw q kept) (λ q. rw q kept) e
 
   pub step_skipped : (s : Skip) (c' : List ℕ) → o ≡ Skipped s → c' ≡ splice c (SKIP_BYTES * p.skips) (word_bytes (skip_words i k s))
       → Step p (fix_bytes base o) (skip_bytes i k o) b b c c' (record { fixups = p.fixups; skips = p.skips + 1 }) 1
@@ -84,7 +76,7 @@ module _ (base i k : ℕ) (o : Outcome) (p : Rows) (b c : List ℕ) where
         near = record { fixes = omega arith; skips = omega arith };
       })
 
-pub ruleset outcome_steps = (step_passed, step_refused, step_skipped, step_fixup)
+pub ruleset outcome_steps = (step_kept, step_skipped, step_fixup)
 
 -- ---- one after another
 pub written_none : (p : Rows) (b c : List ℕ) → Written p [] [] b b c c p

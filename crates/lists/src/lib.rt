@@ -142,8 +142,8 @@ fn write_with(r: Resolver, base: VA, fixups: &mut [u8], skips: &mut [u8])
         fixups: 0,
         skips: 0,
     };
-    for i in 0..r.header.sections {
-        q = write_next(r, base, u32::from(i), q, fixups, skips);
+    for i in 0..u32::from(r.header.sections) {
+        q = write_next(r, base, i, q, fixups, skips);
     }
 }
 

@@ -5,7 +5,8 @@ use lib.Count.{ones, ones-le}
 use lib.Pow.{mod-pow-add}
 use Rattle.std.specs.List.{list_all, range_with_len}
 use Rattle.std.proofs.Math.ListN.{get_or, length, get_or-eq_default}
-use Rattle.std.specs.Prelude.{min}
+use Rattle.std.specs.Prelude.{min, bit_and}
+use Rattle.std.proofs.lemmas.Nat.{and_mask}
 use Rattle.util.specs.Pick.{both_ways, and_left, and_right, and_both, yes_no, not_both, le_or_lt}
 use Rattle.util.specs.Prefix.{all_to, sum_to, all_at, all_of}
 use Rattle.le.specs.Le.{get, le, splice, splice_next}
@@ -93,11 +94,8 @@ module _ (m : List ℕ) (w : ℕ) where
       (λ k l. word_bit k (omega arith) ∙ all_at (λ j. eqb (word_at m w / 2 ^ j % 2) 1) c k e l)))
 
   pub low_marked : (c word low : ℕ) → c < WORD_PAGES → word ≡ get WORD_BYTES m (WORD_BYTES * w) → low ≡ 2 ^ c - 1
-      → eqb (word % (low + 1)) low ≡ all_marked m (WORD_PAGES * w) (WORD_PAGES * w + c)
-  low_marked c word low h e q =
-      let p = pow_pos c in
-      let z : low + 1 ≡ 2 ^ c = omega arith in
-      rw (z, e, q) (sym (low_bits c (omega arith) ∙ bits_full (word_at m w) c))
+      → eqb (bit_and word low) low ≡ all_marked m (WORD_PAGES * w) (WORD_PAGES * w + c)
+  low_marked c word low h e q = rw (e, q, and_mask (word_at m w) c) (sym (low_bits c (omega arith) ∙ bits_full (word_at m w) c))
 
   pub word_marked : (word : ℕ) → word < 2 ^ 64 → word ≡ get WORD_BYTES m (WORD_BYTES * w)
       → eqb word (2 ^ 64 - 1) ≡ all_marked m (WORD_PAGES * w) (WORD_PAGES * w + WORD_PAGES)

@@ -63,7 +63,7 @@ fn low_marked(marks: &[u8], w: u64, n: u64) -> bool
     ensures { result ≡ all_marked marks.now (WORD_PAGES * w) (WORD_PAGES * w + n) }
 {
     let low = ones(n);
-    word(marks, w) % (low + 1) == low
+    word(marks, w) & low == low
 }
 
 // Whether each page of the first n words is.

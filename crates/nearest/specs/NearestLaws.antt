@@ -12,7 +12,6 @@ use Rattle.std.proofs.Math.Dec.{leb}
 use Rattle.util.specs.Pick.{yes_no, le_or_lt, not_both, and_left, and_right, and_both}
 use Rattle.util.specs.Prefix.{all_to, all_of, all_stop}
 use Rattle.arch.specs.declared.VA.{VA}
-use Rattle.refusal.specs.Refusal.{NO_ROUTINE}
 use Rattle.symbols.specs.Symbol.{symbol_count}
 use Rattle.symbols.specs.SymbolLaws.{last_is, last_none}
 use Rattle.nearest.specs.Nearest.{row_address, row_home, qualifies, is_greatest, last_greatest, with_distance, nearest}
@@ -101,21 +100,21 @@ module _ (p : ℕ → Bool) (at : ℕ → ℕ) where
       (yes_no (p j))
 
   pub greatest_is : (n k : ℕ) → Greatest n k → last_greatest p at n ≡ Ok k
-  greatest_is n k g = last_is NO_ROUTINE (is_greatest p at n) n k g.below (no_greater n k g) (no_later n k g)
+  greatest_is n k g = last_is NoRoutine (is_greatest p at n) n k g.below (no_greater n k g) (no_later n k g)
 
   pub none_is : (n : ℕ) → TakesNone n → last_greatest p at n ≡ Err NoRoutine
   unfolding is_greatest
-  none_is n o = last_none NO_ROUTINE (is_greatest p at n) n (λ j l. rw (o j l))
+  none_is n o = last_none NoRoutine (is_greatest p at n) n (λ j l. rw (o j l))
 
 -- ---- the answer for record r and an address
 -- its two numbers
 symbol_of : Result Routine Refusal → ℕ
 symbol_of (Ok a) = a.symbol
-symbol_of (Err n) = n
+symbol_of (Err n) = 0
 
 distance_of : Result Routine Refusal → ℕ
 distance_of (Ok a) = a.distance
-distance_of (Err n) = n
+distance_of (Err n) = 0
 
 module _ (symbols : List ℕ) (r : ℕ) (x : VA) where
   -- symbol k of the list is the nearest of the record, and the address lies d behind it
@@ -206,7 +205,7 @@ module _ (symbols : List ℕ) (r : ℕ) (x : VA) where
       (λ o. let q = none_is_refused o in let z : ◌≡◌ {A = ℕ} 0 1 = cc in absurd (omega arith))
       one_or_none
 
-  pub refused_is_none : (c : ℕ) → nearest symbols r x ≡ Err c → (c ≡ NO_ROUTINE) × NoneQualifies
+  pub refused_is_none : (c : Refusal) → nearest symbols r x ≡ Err c → (c ≡ NoRoutine) × NoneQualifies
   refused_is_none c e =
       ⊎_elim
       (λ s. let q = nearest_is_found s.symbol s.distance s.it in let z : ◌≡◌ {A = ℕ} 0 1 = cc in absurd (omega arith))

@@ -189,14 +189,13 @@ pub fn relocation_records(f: &[u8], h: Header, i: u32) -> u32
 }
 
 // How many relocations the section has.
-#[tactic(auto, unfolding(crate::specs::Section::relocation_count, util::specs::Pick::pick))]
+#[tactic(auto, unfolding(crate::specs::Section::relocation_count, crate::specs::Section::relocation_records, util::specs::Pick::pick))]
 pub fn relocation_count(f: &[u8], h: Header, i: u32) -> u32
     ensures { result ≡ relocation_count f.now h i }
 {
-    let n = relocation_records(f, h, i);
     if is_extended(f, h, i) {
-        n.saturating_sub(1)
+        le::u32_at(f, relocation_pointer(f, h, i) as usize).saturating_sub(1)
     } else {
-        n
+        u32::from(relocation_field(f, h, i))
     }
 }

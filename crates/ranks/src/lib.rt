@@ -13,10 +13,11 @@ ghost use Rattle.ranks.specs.Merge.{rank_all, left_next, RunsClimb, RunsJoin};
 use object::Header;
 use std::cmp::Ordering;
 
+#[tactic(auto, using(crate::proofs::Laws::late_ways))]
 fn lateness(f: &[u8], h: Header, i: u16) -> u16
     ensures { result ≡ lateness f.now h i }
 {
-    if object::is_loaded(f, h, i as u32) {
+    if object::is_loaded(f, h, u32::from(i)) {
         0
     } else {
         1
@@ -24,6 +25,7 @@ fn lateness(f: &[u8], h: Header, i: u16) -> u16
 }
 
 // Of equal names: the loaded first, then the lower number.
+#[tactic(auto, using(crate::proofs::Laws::tie_ways))]
 fn tie_before(f: &[u8], h: Header, i: u16, j: u16) -> bool
     ensures { result ≡ tie_before (lateness f.now h) i j }
 {
@@ -33,13 +35,14 @@ fn tie_before(f: &[u8], h: Header, i: u16, j: u16) -> bool
 }
 
 // Section i does not stand behind section j.
+#[tactic(auto, using(crate::proofs::Laws::precedes_ways))]
 fn precedes(f: &[u8], h: Header, i: u16, j: u16) -> bool
     ensures { result ≡ precedes (section_text f.now h) (lateness f.now h) i j }
 {
     match order::compare(
         f,
-        names::section_span(f, h, i as u32),
-        names::section_span(f, h, j as u32),
+        names::section_span(f, h, u32::from(i)),
+        names::section_span(f, h, u32::from(j)),
     ) {
         Ordering::Less => true,
         Ordering::Equal => tie_before(f, h, i, j),
@@ -48,19 +51,18 @@ fn precedes(f: &[u8], h: Header, i: u16, j: u16) -> bool
 }
 
 // Of a from i on and b from j on: a[i] is next.
+#[tactic(auto, using(crate::proofs::Laws::left_ways))]
 fn left_next(f: &[u8], h: Header, a: &[u16], b: &[u16], i: usize, j: usize) -> bool
     ensures { result ≡ left_next (section_text f.now h) (lateness f.now h) (drop i a.now) (drop j b.now) }
 {
-    if a.len() <= i {
-        return false;
+    match (a.get(i), b.get(j)) {
+        (Some(&x), Some(&y)) => precedes(f, h, x, y),
+        (left, _) => left.is_some(),
     }
-    if b.len() <= j {
-        return true;
-    }
-    precedes(f, h, a[i], b[j])
 }
 
 // Two lists in order as one.
+// Two indices: each turn takes from one list or from the other.
 fn merge(f: &[u8], h: Header, a: &[u16], b: &[u16], out: &mut [u16])
     requires { (length out.old ≡ length a.now + length b.now)
         × Climbs (section_text f.now h) (lateness f.now h) a.now
@@ -68,8 +70,8 @@ fn merge(f: &[u8], h: Header, a: &[u16], b: &[u16], out: &mut [u16])
     ensures { out.new ≡ rank_all (section_text f.now h) (lateness f.now h) a.now b.now }
 {
     let n = out.len();
-    let mut i: usize = 0;
-    let mut j: usize = 0;
+    let mut i = 0;
+    let mut j = 0;
     while i + j < n {
         if left_next(f, h, a, b, i, j) {
             out[i + j] = a[i];
@@ -86,7 +88,7 @@ fn run_end(lo: usize, w: usize, n: usize) -> usize
     requires { lo ≤ n }
     ensures { result ≡ min (lo + w) n }
 {
-    if w < n - lo { lo + w } else { n }
+    lo + w.min(n - lo)
 }
 
 // The two runs from lo on as one.
@@ -104,6 +106,7 @@ fn merge_runs(f: &[u8], h: Header, w: usize, lo: usize, a: &[u16], out: &mut [u1
 }
 
 // Each two runs of w as one.
+// An index: it goes on by the width of two runs.
 fn pass(f: &[u8], h: Header, w: usize, a: &[u16], out: &mut [u16])
     requires { (0 < w)
         × (w ≤ 2 * MAX_SECTIONS)
@@ -113,7 +116,7 @@ fn pass(f: &[u8], h: Header, w: usize, a: &[u16], out: &mut [u16])
     ensures { RunsJoin (section_text f.now h) (lateness f.now h) w a.now out.new }
 {
     let n = a.len();
-    let mut lo: usize = 0;
+    let mut lo = 0;
     while lo < n {
         merge_runs(f, h, w, lo, a, out);
         lo += 2 * w;
@@ -126,7 +129,7 @@ fn sort(f: &[u8], h: Header, a: &mut [u16], spare: &mut [u16])
     ensures { a.new ≡ ranked (section_text f.now h) (lateness f.now h) a.old }
 {
     let n = a.len();
-    let mut w: usize = 1;
+    let mut w = 1;
     while w < n {
         pass(f, h, w, a, spare);
         pass(f, h, 2 * w, spare, a);
@@ -135,15 +138,13 @@ fn sort(f: &[u8], h: Header, a: &mut [u16], spare: &mut [u16])
 }
 
 // The numbers from 0.
+#[tactic(auto, using(crate::proofs::Laws::number_loop))]
 fn number(a: &mut [u16])
     requires { length a.old ≤ MAX_SECTIONS }
     ensures { a.new ≡ list_to (λ (i : ℕ). i) (length a.old) }
 {
-    let n = a.len();
-    let mut i: usize = 0;
-    while i < n {
+    for i in 0..a.len() {
         a[i] = i as u16;
-        i += 1;
     }
 }
 

@@ -23,12 +23,13 @@ use Rattle.words.specs.Picked.{picked, Standing, picked_none, picked_more, picke
 use Rattle.symbol_table.specs.Symbols.{symbol_words, symbol_table}
 
 -- a symbol's record from what was read of it
-pub symbol_put : (f : List ℕ) (h : Header) (base : ℕ) (home : ℕ → Option RVA) (row : ℕ → ℕ) (stops b c : List ℕ) (s : Symbol) (j k x v kn ns nl rec : ℕ) (at : RVA) (name : Option Name) (sk : SymbolKind) (p : Place)
-    → c ≡ splice b k (word_bytes (x ∷ kn ∷ ns ∷ nl ∷ j ∷ rec ∷ [])) → x ≡ (base + at.0) % 2 ^ 64 → at ≡ rva (offset_from (place_home home p) v) → v ≡ listed_of s → kn ≡ kind_number sk → sk ≡ kind_of s
+pub symbol_put : (f : List ℕ) (h : Header) (base : ℕ) (home : ℕ → Option RVA) (row : ℕ → ℕ) (stops b c : List ℕ) (s : Symbol) (j k x v kn ns nl rec n own : ℕ) (at : RVA) (name : Option Name) (sk : SymbolKind) (p : Place)
+    → c ≡ splice b k (word_bytes (x ∷ kn ∷ ns ∷ nl ∷ n ∷ own ∷ [])) → n ≡ j → own ≡ rec → x ≡ (base + at.0) % 2 ^ 64 → at ≡ rva (offset_from (place_home home p) v) → v ≡ listed_of s → kn ≡ kind_number sk → sk ≡ kind_of s
     → ns ≡ name_start name → nl ≡ name_length name → name ≡ symbol_name_by f h stops j → stops ≡ stops_of false f h → rec ≡ of_place row 0 p → p ≡ place_of s → s ≡ symbol_of f h j
     → c ≡ splice b k (word_bytes (symbol_words f h base home row j))
 unfolding symbol_words
-symbol_put f h base home row stops b c s j k x v kn ns nl rec at name sk p d lo e1 e0 e2 e3 e4 e5 e w e7 e8 is =
+symbol_put f h base home row stops b c s j k x v kn ns nl rec n own at name sk p d0 nj oh lo e1 e0 e2 e3 e4 e5 e w e7 e8 is =
+    let d : c ≡ splice b k (word_bytes (x ∷ kn ∷ ns ∷ nl ∷ j ∷ rec ∷ [])) = rw (nj, oh) at d0 in
     let e6 : name ≡ symbol_name f h j = e ∙ symbol_name_is f h stops w j in
     let z : at.0 ≡ listed_offset f h home j = ap (λ (o : RVA). o.0) (rw (e8, e0, is) at e1) in
     let y : sk ≡ kind f h j = rw is at e3 in

@@ -28,12 +28,13 @@ two_low a b ws x y p q =
     let e : y ≡ (a + b) % 2 ^ 64 = omega arith in
     rw (p, e) (word_low a _ ∙ word_next a (a + b) ws)
 
-pub section_put : (f : List ℕ) (h : Header) (base : ℕ) (home : ℕ → Option RVA) (stops b c : List ℕ) (i k len from to perm ns nl x y : ℕ) (at : RVA) (name : Option Name)
-    → c ≡ splice b k (word_bytes (x ∷ y ∷ from ∷ to ∷ perm ∷ ns ∷ nl ∷ (i + 1) ∷ [])) → x ≡ (base + at.0) % 2 ^ 64 → y ≡ (x + len) % 2 ^ 64 → at ≡ rva (start_of (home i)) → len ≡ range_length f h i
+pub section_put : (f : List ℕ) (h : Header) (base : ℕ) (home : ℕ → Option RVA) (stops b c : List ℕ) (i k len from to perm ns nl x y start may n : ℕ) (at : RVA) (name : Option Name)
+    → c ≡ splice b k (word_bytes (x ∷ y ∷ start ∷ to ∷ may ∷ ns ∷ nl ∷ (n + 1) ∷ [])) → start ≡ from → may ≡ perm → n ≡ i → x ≡ (base + at.0) % 2 ^ 64 → y ≡ (x + len) % 2 ^ 64 → at ≡ rva (start_of (home i)) → len ≡ range_length f h i
     → from ≡ file_start f h i → to ≡ file_end f h i → perm ≡ permissions f h i → ns ≡ name_start name → nl ≡ name_length name → name ≡ section_name_by f h stops i → stops ≡ stops_of true f h
     → c ≡ splice b k (word_bytes (section_words f h base home i))
 unfolding section_words
-section_put f h base home stops b c i k len from to perm ns nl x y at name d lo hi e1 e2 e3 e4 e5 e6 e7 e w =
+section_put f h base home stops b c i k len from to perm ns nl x y start may n at name d0 sf mp ni lo hi e1 e2 e3 e4 e5 e6 e7 e w =
+    let d : c ≡ splice b k (word_bytes (x ∷ y ∷ from ∷ to ∷ perm ∷ ns ∷ nl ∷ (i + 1) ∷ [])) = rw (sf, mp, ni) at d0 in
     let e8 : name ≡ section_name f h i = e ∙ section_name_is f h stops w i in
     let e9 : at.0 ≡ start_of (home i) = ap (λ (o : RVA). o.0) e1 in
     rw (← e9, ← e2, ← e3, ← e4, ← e5, ← e8, ← e6, ← e7)
@@ -75,11 +76,12 @@ sections_long T R l b c i n o d = splice_long b c (SECTION_BYTES * n) R d ∙ st
 pub ruleset sections_loop = (sections_none, sections_more, sections_same, sections_end, sections_long)
 
 -- ---- externs
-pub extern_put : (f : List ℕ) (h : Header) (base undef : ℕ) (slots stops b c : List ℕ) (e k j ns nl s x : ℕ) (name : Option Name) → c ≡ splice b k (word_bytes (x ∷ j ∷ ns ∷ nl ∷ []))
-    → s ≡ (base + undef) % 2 ^ 64 → x ≡ (s + SLOT_SIZE * e) % 2 ^ 64 → j ≡ get_or slots e 0 → ns ≡ name_start name → nl ≡ name_length name → name ≡ symbol_name_by f h stops j → stops ≡ stops_of false f h
+pub extern_put : (f : List ℕ) (h : Header) (base undef : ℕ) (slots stops b c : List ℕ) (e k j ns nl s x n m : ℕ) (name : Option Name) → c ≡ splice b k (word_bytes (x ∷ n ∷ ns ∷ nl ∷ [])) → n ≡ j
+    → s ≡ (base + undef) % 2 ^ 64 → x ≡ (s + SLOT_SIZE * m) % 2 ^ 64 → m ≡ e → j ≡ get_or slots e 0 → ns ≡ name_start name → nl ≡ name_length name → name ≡ symbol_name_by f h stops j → stops ≡ stops_of false f h
     → c ≡ splice b k (word_bytes (extern_words f h base undef slots e))
 unfolding extern_words
-extern_put f h base undef slots stops b c e k j ns nl s x name d lo hi e1 e2 e3 q w =
+extern_put f h base undef slots stops b c e k j ns nl s x n m name d0 nj lo hi me e1 e2 e3 q w =
+    let d : c ≡ splice b k (word_bytes (x ∷ j ∷ ns ∷ nl ∷ [])) = rw nj at d0 in
     let e4 : name ≡ symbol_name f h j = q ∙ symbol_name_is f h stops w j in
     let z : x ≡ (base + undef + SLOT_SIZE * e) % 2 ^ 64 = omega arith in
     rw (← e1, ← e4, ← e2, ← e3) (d ∙ ap (splice b k) (rw z (word_low (base + undef + SLOT_SIZE * e) (j ∷ ns ∷ nl ∷ []))))

@@ -51,9 +51,9 @@ pub(crate) fn answer(k: u8, f: &[u8], a: u64) {
     let at = a as usize;
     match k {
         0..=6 => cases::bytes(f),
-        7 => cases::hex(le::byte_at(f, at) as u64),
-        8 => cases::hex(le::u16_at(f, at) as u64),
-        9 => cases::hex(le::u32_at(f, at) as u64),
+        7 => cases::hex(u64::from(le::byte_at(f, at))),
+        8 => cases::hex(u64::from(le::u16_at(f, at))),
+        9 => cases::hex(u64::from(le::u32_at(f, at))),
         10 => cases::hex(le::u64_at(f, at)),
         _ => {}
     }

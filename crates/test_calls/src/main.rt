@@ -18,6 +18,7 @@ fn main() {
     each(&text[..n], &mut file);
 }
 
+// An index: the end of a line says where the next begins.
 fn each(text: &[u8], file: &mut [u8]) {
     let mut n: usize = 0;
     let mut at: usize = 0;

@@ -17,10 +17,10 @@ pub(crate) fn answer(k: u8, a: u64, b: u64, c: u64) {
         0 => cases::yes(util::within(a, b, c)),
         1 => cases::yes(RVA(a).is_page_aligned()),
         2 => cases::yes(VA(a).is_page_aligned()),
-        3 => machine(Arch::of_machine((a % 0x10000) as u16)),
-        4 => address(RVA(a).address(VA(b))),
-        5 => offset(VA(a).offset(VA(b))),
-        6 => offset(RVA(a).plus(RVA(b))),
+        3 => found(Arch::of_machine((a % 0x10000) as u16).map(|m| u64::from(m.machine()))),
+        4 => found(RVA(a).address(VA(b)).map(|v| v.0)),
+        5 => found(VA(a).offset(VA(b)).map(|o| o.0)),
+        6 => found(RVA(a).plus(RVA(b)).map(|o| o.0)),
         7..=18 => cases::hex(number(k, a, b)),
         _ => {}
     }
@@ -34,11 +34,11 @@ fn number(k: u8, a: u64, b: u64) -> u64 {
         10 => RVA(a).page_offset(),
         11 => RVA(a).page_address().0,
         12 => of_bits(a).pointer_size() as u64,
-        13 => of_bits(a).machine() as u64,
+        13 => u64::from(of_bits(a).machine()),
         14 => Arch::X32_POINTER_SIZE as u64,
         15 => Arch::X64_POINTER_SIZE as u64,
-        16 => Arch::X32_MACHINE as u64,
-        17 => Arch::X64_MACHINE as u64,
+        16 => u64::from(Arch::X32_MACHINE),
+        17 => u64::from(Arch::X64_MACHINE),
         _ => arch::PAGE_SIZE,
     }
 }
@@ -48,23 +48,10 @@ pub(crate) fn of_bits(bits: u64) -> Arch {
     if bits == 32 { Arch::X32 } else { Arch::X64 }
 }
 
-fn machine(m: Machine) {
-    match m {
-        Some(a) => cases::hex(a.machine() as u64),
-        None => cases::yes(false),
-    }
-}
-
-fn offset(o: Option<RVA>) {
-    match o {
-        Some(r) => cases::hex(r.0),
-        None => cases::yes(false),
-    }
-}
-
-fn address(a: Option<VA>) {
-    match a {
-        Some(v) => cases::hex(v.0),
+// A number, where there is one.
+fn found(n: Option<u64>) {
+    match n {
+        Some(v) => cases::hex(v),
         None => cases::yes(false),
     }
 }

@@ -34,13 +34,12 @@ pub(crate) fn answer(k: u8, f: &[u8], a: u64, b: u64) {
         4 => symbol_rows::maps(f, h),
         5 => symbol_rows::classes(f),
         6..=17 => cases::hex(number(k, f, h, i, r)),
-        18..=33 => cases::hex(word(k, f, h, i, r) as u64),
+        18..=33 => cases::hex(u64::from(word(k, f, h, i, r))),
         34 => kinds_said::kind(f, h, i),
         35 => kinds_said::place(f, h, i),
-        36 => kinds_said::relocation(kind_asked(kinds::type_of(
-            numbers::of_bits(a),
-            (b % 0x10000) as u16,
-        ))),
+        36 => kinds_said::relocation(
+            kinds::type_of(numbers::of_bits(a), (b % 0x10000) as u16).kind,
+        ),
         _ => {}
     }
 }
@@ -100,14 +99,9 @@ fn word(k: u8, f: &[u8], h: Header, i: u32, r: u32) -> u32 {
 
 // What a relocation type asks for: the kind, by its number in document 01's order, and in decimal the bits and the addend.
 fn asked(t: RelocationType) {
-    let kind = t.kind;
-    cases::hex(kind_number(kind));
+    cases::hex(kind_number(t.kind));
     cases::decimal(t.bits);
     cases::signed(t.addend);
-}
-
-fn kind_asked(t: RelocationType) -> RelocationKind {
-    t.kind
 }
 
 fn kind_number(kind: RelocationKind) -> u64

@@ -1,8 +1,8 @@
 // Names, which `names` finds in the file, and two names that are the file, one behind the other.
 use crate::records;
 use names::Name;
-use std::cmp::Ordering;
 use object::Header;
+use std::cmp::Ordering;
 
 // The function's place in this list, in whose order the arms below stand.
 pub(crate) fn question(line: &[u8]) -> u8 {
@@ -34,12 +34,9 @@ fn found(k: u8, f: &[u8], h: Header, i: u32) -> Option<Name> {
 // Whether it is good, where it is, how long, and its bytes.
 fn name(f: &[u8], name: Option<Name>) {
     cases::yes(names::is_good(name));
-    match name {
-        Some(n) => {
-            cases::hex(at as u64);
-            cases::hex(n as u64);
-        }
-        None => {}
+    if let Some(n) = name {
+        cases::hex(n.at as u64);
+        cases::hex(n.length as u64);
     }
     cases::bytes(names::name_bytes(f, name));
 }
@@ -53,7 +50,7 @@ fn pair(k: u8, a: &[u8], b: &[u8]) {
     }
 }
 
-fn order(o: Order) {
+fn order(o: Ordering) {
     let sign = match o {
         Ordering::Less => b'<',
         Ordering::Equal => b'=',

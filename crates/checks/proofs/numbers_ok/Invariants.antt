@@ -1,0 +1,8 @@
+use Rattle.std.proofs.Common.{◌≡◌, true}
+use Rattle.util.specs.Prefix.{all_to}
+use Rattle.object.specs.Symbol.{auxiliaries_left, ok_at}
+use Rattle.checks.specs.Checks.{number_ok}
+use Rattle.checks.proofs.numbers_ok.Given as goal
+
+abbrev pub invariant-loop-j : goal.invariant-loop-j
+invariant-loop-j l = record { left_is : l.left ≡ auxiliaries_left l.f l.h l.j; good : all_to (ok_at number_ok l.f l.h) l.j ≡ true }
