@@ -28,7 +28,6 @@ pub struct Lengths {
 }
 
 // The first three buffers have room.
-#[tactic(auto, using(crate::proofs::Laws::rooms))]
 fn layout_room(c: Counts, l: Lengths) -> bool
     ensures { result ≡ layout_room c l }
 {
@@ -39,7 +38,6 @@ fn layout_room(c: Counts, l: Lengths) -> bool
 }
 
 // The other four have room.
-#[tactic(auto, using(crate::proofs::Laws::rooms))]
 fn lists_room(c: Counts, l: Lengths) -> bool
     ensures { result ≡ lists_room c l }
 {
@@ -50,7 +48,6 @@ fn lists_room(c: Counts, l: Lengths) -> bool
 }
 
 // 13: each lent buffer has room for what is counted.
-#[tactic(auto, using(crate::proofs::Laws::rooms))]
 fn room_ok(c: Counts, l: Lengths) -> bool
     ensures { result ≡ room_for c l }
 {
@@ -107,7 +104,6 @@ fn check_first(f: &[u8], h: Header, base: VA) -> Result<(), Refusal>
 
 // All refusals in their order, or the counts and how many extern names there are; the arrays are the caller's, and what they then hold is told where they
 // held zeros. The length is said for a caller, who knows no more of a lent array than this.
-#[tactic(auto, using(crate::proofs::Laws::planning))]
 pub fn plan_file(
     f: &[u8],
     base: VA,
