@@ -70,8 +70,7 @@ fn list_sections(
     ensures { b.new ≡ splice b.old 0 (section_table f.now h base.0 (home_in homes.now) undef.0) }
 {
     let mut n = 0;
-    for i in 0..h.sections {
-        let i = u32::from(i);
+    for i in 0..u32::from(h.sections) {
         if object::is_loaded(f, h, i) {
             put_section(f, h, base, homes, stops, i, n, b);
             n += 1;

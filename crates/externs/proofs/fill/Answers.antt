@@ -14,5 +14,5 @@ loop-i-preserved c =
       room = search (rules, count_room);
       kept = externs_kept _ _ _ _ _ _ _ _ _ _ _ _ held.kept held.spent held.list now.holds _ c.in_ok-count.was now.left_for;
       spent = externs_spent _ _ _ _ _ _ _ _ _ _ _ _ held.kept held.spent held.list now.holds _ c.in_ok-count.was now.left_for;
-      list = externs_more _ _ _ _ _ _ _ _ _ _ _ _ held.kept held.spent held.list now.holds _ c.in_ok-count.was;
+      list = externs_more _ _ _ _ _ _ _ _ _ c.add_records.new.keys c.add_records.new.codes _ held.kept held.spent held.list now.holds _ c.in_ok-count.was;
     }
