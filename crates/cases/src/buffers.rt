@@ -8,12 +8,12 @@ use crate::{bytes_at, crc32, number_at, place, word};
 pub fn least(a: u64, b: usize) -> usize
     ensures { result ≤ b }
 {
-    if a < b as u64 { a as usize } else { b }
+    a.min(b as u64) as usize
 }
 
 // A count that a table of a test has room for.
 pub fn few(n: u64) -> u16 {
-    if n < 65535 { n as u16 } else { 65535 }
+    u16::try_from(n).unwrap_or(u16::MAX)
 }
 
 // A line whose word 1 says what is done to a buffer: `fill BYTE` makes all its bytes alike, `put AT BYTES` changes at most 32 of them, and
@@ -46,7 +46,7 @@ fn show(line: &[u8], b: &[u8]) {
 
 // Nothing where the line has no such words.
 fn window(line: &[u8], at: u8, n: u8, b: &[u8]) {
-    if word(line, n).len() > 0 {
+    if !word(line, n).is_empty() {
         bytes(le::part(b, number_at(line, at) as usize, number_at(line, n) as usize));
     }
 }

@@ -1,12 +1,4 @@
 // CRC-32, bit by bit.
-fn wide(b: u8) -> u32 {
-    b as u32
-}
-
-fn long(x: u32) -> u64 {
-    x as u64
-}
-
 fn bit(x: u32) -> u32 {
     if x % 2 == 1 {
         (x / 2) ^ 0xEDB88320
@@ -22,10 +14,8 @@ fn byte(x: u32) -> u32 {
 // The CRC-32 of bytes, as zlib computes it.
 pub fn crc32(s: &[u8]) -> u64 {
     let mut x: u32 = 0xFFFFFFFF;
-    let mut i: usize = 0;
-    while i < s.len() {
-        x = byte(x ^ wide(s[i]));
-        i += 1;
+    for b in s {
+        x = byte(x ^ u32::from(*b));
     }
-    long(x ^ 0xFFFFFFFF)
+    u64::from(x ^ 0xFFFFFFFF)
 }

@@ -18,14 +18,12 @@ pub use say::{
 pub fn line_end(text: &[u8], from: usize) -> usize
     ensures { from ≤ result }
 {
-    let mut i = from;
-    while i < text.len() {
+    for i in from..text.len() {
         if text[i] == b'\n' {
             return i;
         }
-        i += 1;
     }
-    i
+    from.max(text.len())
 }
 
 // That line.
@@ -41,29 +39,26 @@ pub fn word(line: &[u8], k: u8) -> &[u8] {
 
 fn word_start(line: &[u8], k: u8) -> usize {
     let mut left = k;
-    let mut i: usize = 0;
-    while i < line.len() && left > 0 {
-        if line[i] == b' ' {
+    for (i, b) in line.iter().enumerate() {
+        if left == 0 {
+            return i;
+        }
+        if *b == b' ' {
             left -= 1;
-            i += 1;
-        } else {
-            i += 1;
         }
     }
-    i
+    line.len()
 }
 
 fn word_end(line: &[u8], from: usize) -> usize
     ensures { from ≤ result }
 {
-    let mut i = from;
-    while i < line.len() {
+    for i in from..line.len() {
         if line[i] == b' ' {
             return i;
         }
-        i += 1;
     }
-    i
+    from.max(line.len())
 }
 
 // Where a word stands in a list of words with a space behind each; their number where it is none of them.
@@ -71,28 +66,20 @@ pub fn place(word: &[u8], words: &[u8]) -> u8 {
     let mut k: u8 = 0;
     let mut same: bool = true;
     let mut j: usize = 0;
-    let mut i: usize = 0;
-    while i < words.len() {
-        let b = words[i];
-        if b == b' ' {
+    for b in words {
+        if *b == b' ' {
             if same && j == word.len() {
                 return k;
             }
-            k = after(k);
+            k = k.saturating_add(1);
             same = true;
             j = 0;
-            i += 1;
         } else {
-            same = same && le::byte_at(word, j) == b;
+            same = same && le::byte_at(word, j) == *b;
             j += 1;
-            i += 1;
         }
     }
     k
-}
-
-fn after(k: u8) -> u8 {
-    if k < 255 { k + 1 } else { k }
 }
 
 // The number that word k is.
@@ -102,29 +89,23 @@ pub fn number_at(line: &[u8], k: u8) -> u64 {
 
 fn number_of(s: &[u8]) -> u64 {
     let hex = le::byte_at(s, 1) == b'x';
-    let mut v: u64 = 0;
-    let mut i: usize = 0;
-    while i < s.len() {
-        v = longer(v, le::byte_at(s, i), hex);
-        i += 1;
-    }
-    v
+    s.iter().fold(0, |v, b| longer(v, *b, hex))
 }
 
 // The `x` counts as a digit 0 behind a 0.
 fn longer(v: u64, b: u8, hex: bool) -> u64 {
     if hex {
-        std::num::wrapping_add_u64(v % 0x1000000000000000 * 16, digit(b))
+        (v % 0x1000000000000000 * 16).wrapping_add(digit(b))
     } else {
-        std::num::wrapping_add_u64(v % 1844674407370955162 * 10, digit(b))
+        (v % 1844674407370955162 * 10).wrapping_add(digit(b))
     }
 }
 
 fn digit(b: u8) -> u64 {
     match b {
-        b'0'..=b'9' => (b - b'0') as u64,
-        b'a'..=b'f' => (b - b'a' + 10) as u64,
-        b'A'..=b'F' => (b - b'A' + 10) as u64,
+        b'0'..=b'9' => u64::from(b - b'0'),
+        b'a'..=b'f' => u64::from(b - b'a' + 10),
+        b'A'..=b'F' => u64::from(b - b'A' + 10),
         _ => 0,
     }
 }
@@ -136,14 +117,12 @@ pub fn bytes_at(line: &[u8], k: u8, out: &mut [u8]) -> usize {
 
 fn bytes_of(s: &[u8], out: &mut [u8]) -> usize {
     let n = s.len() / 2;
-    let mut i: usize = 0;
-    while i < n {
+    for i in 0..n {
         le::put_u8(
             out,
             i,
             pair(le::byte_at(s, 2 * i), le::byte_at(s, 2 * i + 1)),
         );
-        i += 1;
     }
     n
 }

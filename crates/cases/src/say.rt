@@ -62,31 +62,25 @@ pub fn yes(b: bool) {
 // Bytes in hexadecimal; none are a dash.
 pub fn bytes(s: &[u8]) {
     text(b" ");
-    if s.len() == 0 {
+    if s.is_empty() {
         text(b"-");
     }
-    let mut i: usize = 0;
-    while i < s.len() {
-        io::print_hex(1, wide(s[i]), 2);
-        i += 1;
+    for b in s {
+        io::print_hex(1, u64::from(*b), 2);
     }
-}
-
-fn wide(b: u8) -> u64 {
-    b as u64
 }
 
 // The number of a refusal.
-pub fn refused(code: u64) {
+pub fn refused(r: Refusal) {
     text(b" refused");
-    decimal(code);
+    decimal(r.number());
 }
 
 // What an operation says that only writes.
 pub fn answer(a: Result<(), Refusal>) {
     match a {
         Ok(()) => text(b" done"),
-        Err(code) => refused(code),
+        Err(r) => refused(r),
     }
 }
 
@@ -94,6 +88,6 @@ pub fn answer(a: Result<(), Refusal>) {
 pub fn number(n: Result<u64, Refusal>) {
     match n {
         Ok(v) => hex(v),
-        Err(code) => refused(code),
+        Err(r) => refused(r),
     }
 }

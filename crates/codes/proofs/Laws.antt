@@ -10,6 +10,8 @@ use native.Mathlib.Omega.{arith}
 use lib.Dec.{eqb}
 use lib.ListN.{length, get_or, set}
 use borrow.Author.Tests.{eq-eqb, ne_eqb}
+use Rattle.std.specs.List.Sorted.{IsPartitionedBy, IsPartitionPoint}
+use Rattle.std.proofs.lemmas.List.{get_or_default}
 use Rattle.limits.specs.Limits.{MAX_SECTIONS}
 use Rattle.util.specs.Pick.{pick, pick_no, flag_no, yes_no, not_both}
 use Rattle.util.specs.Prefix.{any_to, any_out, length_list, list_at}
@@ -30,7 +32,7 @@ use Rattle.names.specs.declared.Span.{Span}
 use Rattle.names.specs.Name.{section_span, symbol_span, span_text, section_text}
 use Rattle.ranks.specs.Rank.{lateness, section_ranks, InOrder}
 use Rattle.ranks.specs.RankLaws.{ranks_room, ranks_long}
-use Rattle.ranks.specs.Search.{is_lower, lower_than, Halved, ranks_in_order}
+use Rattle.ranks.specs.Search.{is_lower, lower_than, LowFirst, Halved, ranks_in_order}
 use Rattle.ranks.specs.Named.{TableRecord, Loaded, section_is_named, some_section_named, loaded_named, named_record}
 use Rattle.ranks.specs.Ranked.{ranked_first, ranked_none, ranked_some, ranked_without}
 use Rattle.codes.specs.Code.{AUXILIARY, REFUSED, SLOT, EXTERN, UNDEF_RECORD, UNDEF_EXTERN, SPAN, HOMES, RECORDS, named_code, rule_code, code_by_name, code_of, codes_to, is_extern, puts_in}
@@ -46,6 +48,14 @@ module _ (l : List ℕ) (at v : ℕ) where
   code_past h = sym (splice_past l at (v ∷ []) h)
 
 pub ruleset one_code = (code_in, code_past)
+
+-- ---- where the lower ones end, as the library's search says it
+module _ (low : ℕ → Bool) (list : List ℕ) where
+  pub parted : LowFirst low list → IsPartitionedBy low list
+  parted first i j d a b t = rw (get_or_default list i d 0 (omega arith)) (first i j a b (rw (get_or_default list j d 0 b) at t))
+
+  pub point_halved : (r : ℕ) → r ≤ length list → IsPartitionPoint (λ y. low y ≡ true) (λ y. low y ≡ false) list r → Halved low list r 0
+  point_halved r b p = record { room = omega arith; before = λ k q. p.0 k 0 (omega arith) q; behind = λ k q s. p.1 k 0 (omega arith) s }
 
 -- ---- a section by name
 lt_lower : (o : Ordering) → is_lt o ≡ is_lower o

@@ -82,25 +82,12 @@ fn is_before(f: &[u8], h: Header, name: Span, x: u16) -> bool
     order::compare(f, names::section_span(f, h, u32::from(x)), name).is_lt()
 }
 
-// Where the names that come before that one end, in the sections' order: of the n from lo the middle one decides.
-// Halving, and no `for`: where the search goes on depends on each answer.
+// Where the names that come before that one end, in the sections' order.
 fn first_named(f: &[u8], h: Header, ranks: &[u16], name: Span) -> usize
     requires { ranks.now ≡ section_ranks f.now h }
     ensures { Halved (lower_than (section_text f.now h) (span_text f.now name)) ranks.now result 0 }
 {
-    let mut lo = 0;
-    let mut n = ranks.len();
-    while 0 < n {
-        let half = n / 2;
-        let middle = lo + half;
-        if is_before(f, h, name, ranks[middle]) {
-            lo = middle + 1;
-            n = n - half - 1;
-        } else {
-            n = half;
-        }
-    }
-    lo
+    ranks.partition_point(|x| is_before(f, h, name, *x))
 }
 
 // Of a name that no file section has.

@@ -1,20 +1,48 @@
 -- The steps of a scan and of filling, as the code asks them.
-use Rattle.nearest.specs.declared.Routine.{Routine}
 use Rattle.refusal.specs.declared.Refusal.{Refusal}
 use Rattle.std.specs.Prelude.{Result, Ok, Err}
 use Rattle.std.proofs.Common.{◌≡◌, ℕ, ◌+◌, ◌*◌, ◌/◌, ◌<◌, ◌≤◌, Bool, true, false, List, length, drop, set, sym, refl, ap, ◌∙◌, add-one, drop_of_length-le, drop-cons}
-use Rattle.limits.specs.Records.{WORD, SECTION_WORDS, SECTION_BYTES}
+use Rattle.std.specs.Prelude.{Option, Some, None, cond, ◌||◌, suc, [], ◌∷◌}
+use Rattle.std.specs.List.{find, list_any, position, position_from}
+use Rattle.std.specs.Option.{option_map, ok_or}
+use Rattle.std.proofs.lemmas.Iterator.Adapters.{position_from-zero}
+use Rattle.limits.specs.Records.{SECTION_BYTES}
 use Rattle.util.specs.Pick.{pick}
 use Rattle.util.specs.Prefix.{length_list, list_at}
-use Rattle.le.specs.Le.{get}
 use Rattle.arch.specs.declared.VA.{VA}
-use Rattle.arch.specs.Address.{va}
-use Rattle.words.specs.Words.{word_of}
 use Rattle.section.specs.declared.Section.{Section}
 use Rattle.section.specs.Section.{holds}
-use Rattle.nearest.specs.Nearest.{nearest}
 use Rattle.module.specs.Questions.{first_of, numbered, NONE_HOLDS, section_of, section_at, fill_to, blank, nth}
-use Rattle.module.specs.Routine.{table_sections, of_holder, routine}
+use Rattle.module.specs.Routine.{table_sections}
+
+-- ---- the searches of std: the first record that a test takes, its number, and whether there is one
+number_at : (p : Section → Bool) (z : Refusal) (t : List Section) (i : ℕ) → first_of p numbered (Err z) t i ≡ ok_or (position_from p i t) z
+unfolding first_of pick numbered
+number_at p z [] i = refl
+number_at p z (s ∷ t) i = elim (p s) as (λ b. pick b (Ok i) (first_of p numbered (Err z) t (suc i)) ≡ ok_or (cond b (Some i) (position_from p (i + 1) t)) z) [ true ↦ refl | false ↦ rw add-one (number_at p z t (suc i)) ]
+
+pub position_is : (p : Section → Bool) (z : Refusal) (t : List Section) → first_of p numbered (Err z) t 0 ≡ ok_or (position p t) z
+position_is p z t = number_at p z t 0 ∙ ap (λ o. ok_or o z) (sym (position_from-zero p t))
+
+pub any_is : (p : Section → Bool) (t : List Section) (i : ℕ) → first_of p (λ _ _. true) false t i ≡ list_any p t
+unfolding first_of pick
+any_is p [] i = refl
+any_is p (s ∷ t) i = elim (p s) as (λ b. pick b true (first_of p (λ _ _. true) false t (suc i)) ≡ b || list_any p t) [ true ↦ refl | false ↦ any_is p t (suc i) ]
+
+pub find_is : {A : Type 0} (p : Section → Bool) (a : Section → A) (z : Refusal) (t : List Section) (i : ℕ) → first_of p (λ _ s. Ok (a s)) (Err z) t i ≡ ok_or (option_map a (find p t)) z
+unfolding first_of pick
+find_is p a z [] i = refl
+find_is p a z (s ∷ t) i = elim (p s) as (λ b. pick b (Ok (a s)) (first_of p (λ _ s. Ok (a s)) (Err z) t (suc i)) ≡ ok_or (option_map a (cond b (Some s) (find p t))) z) [ true ↦ refl | false ↦ find_is p a z t (suc i) ]
+
+-- as the code says the answer
+module _ (p : Section → Bool) (t : List Section) (z : Refusal) where
+  pub number_told : {answer : Result ℕ Refusal} {r : Option ℕ} → answer ≡ ok_or r z → r ≡ position p t → answer ≡ first_of p numbered (Err z) t 0
+  number_told told e = told ∙ ap (λ o. ok_or o z) e ∙ sym (position_is p z t)
+
+  pub found_told : {A B : Type 0} (v : B → Section) (a : Section → A) {answer : Result A Refusal} (r : Option B) → answer ≡ ok_or (option_map (λ y. a (v y)) r) z → option_map v r ≡ find p t
+      → answer ≡ first_of p (λ _ s. Ok (a s)) (Err z) t 0
+  found_told v a None told e = told ∙ ap (λ o. ok_or (option_map a o) z) e ∙ sym (find_is p a z t 0)
+  found_told v a (Some y) told e = told ∙ ap (λ o. ok_or (option_map a o) z) e ∙ sym (find_is p a z t 0)
 
 -- ---- a scan by index: the answer of the whole is that of the records from i on
 pub record Left {A : Type 0} (p : Section → Bool) (a : ℕ → Section → A) (z : A) (t : List Section) (i : ℕ) : Type 0 where
@@ -45,8 +73,6 @@ module _ {A : Type 0} {p : Section → Bool} {a : ℕ → Section → A} {z : A}
         let step : first_of p a z (drop i t) i ≡ z = rw (drop_of_length-le t past) in
         answers ∙ sym step ∙ l.same
 
-pub ruleset scan_steps = (left_all, left_next, left_found, left_none)
-
 -- ---- filling by index
 pub fill_to_zero : (table : List ℕ) (t : List Section) → fill_to table 0 t ≡ t
 unfolding fill_to
@@ -57,19 +83,6 @@ unfolding fill_to
 fill_to_next table n t = rw add-one
 
 pub ruleset fill_steps = (fill_to_zero, fill_to_next)
-
--- ---- where a word stands
-pub section_word_is : (table : List ℕ) (r w x : ℕ) → x ≡ get WORD table (WORD * (SECTION_WORDS * r + w)) → x ≡ word_of SECTION_WORDS table r w
-unfolding word_of
-section_word_is table r w x e = e
-
-module _ (table : List ℕ) (r : ℕ) where
-  abbrev word : ℕ → ℕ
-  word = word_of SECTION_WORDS table r
-
-  pub section_is : (a b c d e f g h : ℕ) → a ≡ word 0 → b ≡ word 1 → c ≡ word 2 → d ≡ word 3 → e ≡ word 4 → f ≡ word 5 → g ≡ word 6 → h ≡ word 7
-      → ◌≡◌ {A = Section} (record { start = va a; end = va b; file_start = c; file_end = d; permissions = e; name_start = f; name_length = g; number = h }) (section_at table r)
-  section_is a b c d e f g h i j k l m n o p = rw (i, j, k, l, m, n, o, p)
 
 -- ---- a scan of the table that load wrote
 pub record LeftRecords (table : List ℕ) (x : VA) (i : ℕ) : Type 0 where
@@ -96,16 +109,3 @@ module _ {table : List ℕ} {x : VA} {n i : ℕ} (l : LeftRecords table x i) (co
   record_none past answers = left_none l.left (rw (long table n counted) past) answers
 
 pub ruleset record_steps = (records_all, record_next, record_found, record_none)
-
--- ---- the symbols of the section that was found
-module _ (symbols : List ℕ) (x : VA) where
-  pub of_holder_is : (s : Result ℕ Refusal) (r : ℕ) {a : Result Routine Refusal} → s ≡ Ok r → a ≡ nearest symbols r x → a ≡ of_holder symbols x s
-  unfolding of_holder
-  of_holder_is s r q e = rw q e
-
-  pub of_none_is : (s : Result ℕ Refusal) (n : ℕ) → s ≡ Err n → Err n ≡ of_holder symbols x s
-  unfolding of_holder
-  of_none_is s n q = rw q
-
-  pub routine_is : (t : List Section) {a : Result Routine Refusal} (s : Result ℕ Refusal) → a ≡ of_holder symbols x s → s ≡ section_of t x → a ≡ routine t symbols x
-  routine_is t s e q = rw (← q) e

@@ -6,7 +6,6 @@ use Rattle.std.specs.Prelude.{◌≡◌, ℕ, ◌⊎◌, List, Result, Ok, Err}
 use Rattle.std.proofs.Common.{sym, ◌∙◌, inl, inr, ⊎_elim, arith}
 use Rattle.std.proofs.Math.Path.{ap}
 use Rattle.arch.specs.declared.VA.{VA}
-use Rattle.refusal.specs.Refusal.{NO_SECTION, NO_ROUTINE}
 use Rattle.section.specs.declared.Section.{Section}
 use Rattle.section.specs.Section.{holds}
 use Rattle.nearest.specs.Nearest.{nearest}
@@ -32,7 +31,7 @@ module _ (t : List Section) (symbols : List ℕ) (x : VA) where
   none_is_21 w = by_holder w.section w.holder ∙ none_is_refused symbols w.section x w.none
 
   -- and there is no other refusal
-  pub refused_is : (n : ℕ) → routine t symbols x ≡ Err n → ((n ≡ NO_SECTION) × Unheld t x) ⊎ ((n ≡ NO_ROUTINE) × WithoutSymbol t symbols x)
+  pub refused_is : (n : Refusal) → routine t symbols x ≡ Err n → ((n ≡ NoSection) × Unheld t x) ⊎ ((n ≡ NoRoutine) × WithoutSymbol t symbols x)
   refused_is n e =
       ⊎_elim
       (λ h.

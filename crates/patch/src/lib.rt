@@ -5,7 +5,6 @@ mod answer;
 
 ghost use Rattle.std.specs.Prelude.{◌≡◌, ◌+◌, ◌%◌, ◌^◌, ◌<◌, ◌≤◌, true, length};
 ghost use Rattle.arch.specs.Page.{PAGE_SIZE};
-ghost use Rattle.le.specs.Le.{get, le, splice};
 ghost use Rattle.limits.specs.Records.{FIXUP_WORDS};
 ghost use Rattle.words.specs.Words.{word_of};
 ghost use Rattle.patch.specs.Fixes.{WIDE_BYTES, fix_count, place_at, bits_at, value_at, width_of, known_bits, fix_ok, fixed, fixed_from};

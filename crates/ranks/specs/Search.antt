@@ -130,7 +130,7 @@ module _ (f : List ℕ) (h : Header) (sought ranks : List ℕ) (is : ranks ≡ s
   pub ranks_in_order : InOrder (section_text f h) (lateness f h) h.sections ranks
   ranks_in_order = rw is (sections_in_order f h)
 
-  ranks_low : LowFirst (lower_than (section_text f h) sought) ranks
+  pub ranks_low : LowFirst (lower_than (section_text f h) sought) ranks
   ranks_low = low_first (section_text f h) (lateness f h) h.sections ranks sought ranks_in_order
 
   module _ (lo n : ℕ) (t : Bool) (x : Halved (lower_than (section_text f h) sought) ranks lo n) (more : 0 < n) (e : t ≡ lower_than (section_text f h) sought (get_or ranks (lo + n / 2) 0)) where

@@ -1,5 +1,4 @@
 -- A name by the noted stops is the one that the rule says. Assumes nothing.
-use Rattle.names.specs.declared.Name.{Name}
 use Rattle.names.specs.Name.{good_name}
 use Rattle.std.specs.Prelude.{◌≡◌, Bool, ◌&&◌, ◌||◌, not, List, ℕ, ◌+◌, ◌-◌, ◌≤◌, ◌<◌, length, get_or, replicate, leb, None, Option, Some}
 use Rattle.std.proofs.Math.Path.{refl, sym, ap}

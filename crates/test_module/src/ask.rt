@@ -13,9 +13,8 @@ ghost use Rattle.module.specs.Questions.{
 };
 ghost use Rattle.module.specs.Routine.{routine};
 
-use answers::AddressAnswer;
 use arch::VA;
-use nearest::RoutineAnswer;
+use nearest::Routine;
 use refusal::Refusal;
 use section::{OffsetProbe, Probe, Section};
 

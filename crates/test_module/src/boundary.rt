@@ -19,29 +19,24 @@ const NAME_LENGTH: u8 = 6;
 
 // Word k of section record i.
 pub fn word(table: &[u8], i: u16, k: u8) -> u64 {
-    le::u64_at(
-        table,
-        i as usize * limits::SECTION_BYTES + k as usize * limits::WORD,
-    )
+    words::word(table, limits::SECTION_WORDS, usize::from(i), k)
 }
 
 fn before(x: u64) -> u64 {
-    std::num::wrapping_add_u64(x, u64::MAX)
+    x.wrapping_sub(1)
 }
 
 fn behind(x: u64, n: u64) -> u64 {
-    std::num::wrapping_add_u64(x, n)
+    x.wrapping_add(n)
 }
 
 // The bounds of every section's ranges, its name, and two names more.
 pub fn all(f: &[u8], table: &[u8], symbols: &[u8], n: u16) {
     let t = ask::sections(table);
-    let mut i: u16 = 0;
-    while i < n {
+    for i in 0..n {
         range(t, symbols, word(table, i, START), word(table, i, END));
         file_range(t, word(table, i, FILE_START), word(table, i, FILE_END));
         own_name(t, f, table, i);
-        i += 1;
     }
     named(t, f, b"UNDEF");
     named(t, f, b"nosuch");
@@ -89,11 +84,7 @@ fn address(t: [Section; 17], symbols: &[u8], va: VA) {
 }
 
 fn probe(t: [Section; 17], va: VA, permissions: u64) {
-    let q = Probe {
-        va: va,
-        permissions: permissions,
-    };
-    say::yes(ask::probe_va(t, q));
+    say::yes(ask::probe_va(t, Probe { va, permissions }));
 }
 
 // An offset from the base: the same probes.
@@ -110,8 +101,8 @@ fn offset(t: [Section; 17], rva: RVA) {
 fn probe_offset(t: [Section; 17], rva: RVA, permissions: u64) {
     let q = OffsetProbe {
         base: VA(BASE),
-        rva: rva,
-        permissions: permissions,
+        rva,
+        permissions,
     };
     say::yes(ask::probe_rva(t, q));
 }

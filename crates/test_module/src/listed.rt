@@ -1,31 +1,29 @@
 // Questions to the lists of symbols and of extern names.
 use crate::say;
 use arch::VA;
-use symbols::{Extern, ExternAnswer, Symbol, SymbolAnswer};
+use symbols::{Extern, Symbol};
 
 // Every record, and the number behind the last.
 pub fn symbols(f: &[u8], table: &[u8], n: u16) {
-    let mut k: u32 = 0;
-    while k <= n as u32 {
+    for k in 0..u32::from(n) + 1 {
         symbol(f, table, k);
-        k += 1;
     }
 }
 
 fn symbol(f: &[u8], table: &[u8], k: u32) {
     cases::text(b"symbol");
-    match symbols::symbol_entry(table, k as usize) {
+    match symbols::entry::<Symbol>(table, k as usize) {
         Ok(s) => symbol_at(f, table, s, k),
-        SymbolErr(n) => say::refused(n),
+        Err(r) => say::refused(r),
     }
     say::end();
 }
 
 // Its name, the last record of that name, its address, and the first record and the next one there.
 fn symbol_at(f: &[u8], table: &[u8], s: Symbol, k: u32) {
-    let name = symbols::symbol_name_of(f, table, k as usize);
+    let name = symbols::name_of::<Symbol>(f, table, k as usize);
     say::name(name);
-    say::number(symbols::symbol_named(f, table, name));
+    say::number(symbols::named::<Symbol>(f, table, name));
     say::place(s.address.0);
     say::number(symbols::symbol_at(table, s.address, 0));
     say::number(symbols::symbol_at(table, s.address, k as usize + 1));
@@ -34,26 +32,24 @@ fn symbol_at(f: &[u8], table: &[u8], s: Symbol, k: u32) {
 
 // The same of extern names.
 pub fn externs(f: &[u8], table: &[u8], n: u16) {
-    let mut k: u32 = 0;
-    while k <= n as u32 {
+    for k in 0..u32::from(n) + 1 {
         extern_name(f, table, k);
-        k += 1;
     }
 }
 
 fn extern_name(f: &[u8], table: &[u8], k: u32) {
     cases::text(b"extern");
-    match symbols::extern_entry(table, k as usize) {
+    match symbols::entry::<Extern>(table, k as usize) {
         Ok(e) => extern_at(f, table, e, k),
-        ExternErr(n) => say::refused(n),
+        Err(r) => say::refused(r),
     }
     say::end();
 }
 
 // Its name, the record of that name, and its address.
 fn extern_at(f: &[u8], table: &[u8], e: Extern, k: u32) {
-    let name = symbols::extern_name_of(f, table, k as usize);
+    let name = symbols::name_of::<Extern>(f, table, k as usize);
     say::name(name);
-    say::number(symbols::extern_named(f, table, name));
+    say::number(symbols::named::<Extern>(f, table, name));
     say::place(e.address.0);
 }

@@ -10,7 +10,7 @@ mod reading;
 mod say;
 
 use arch::{Arch, VA};
-use loading::Load;
+use refusal::Refusal;
 use survey::Counts;
 
 const BASE: u64 = 0x20000000;
@@ -25,6 +25,7 @@ fn main() {
 fn each(text: &[u8]) {
     let mut n: u64 = 0;
     let mut at: usize = 0;
+    // A `while`: each object says where the next one begins.
     while at < text.len() {
         let length = le::u32_at(text, at) as usize;
         cases::part(b"case ", n);
@@ -56,7 +57,7 @@ fn loaded(f: &[u8]) {
         &mut skips,
     );
     match s {
-        Err(n) => refused(n),
+        Err(r) => refused(r),
         Ok(c) => {
             asked(f, c, &sections, &symbols, &externs);
             read(f, c, &image, &marks, &sections);
@@ -64,8 +65,8 @@ fn loaded(f: &[u8]) {
     }
 }
 
-fn refused(n: u64) {
-    cases::part(b"refused ", n);
+fn refused(r: Refusal) {
+    cases::part(b"refused ", r.number());
     say::end();
 }
 

@@ -4,8 +4,7 @@ use arch::{Arch, PAGE_SIZE, RVA, VA};
 
 // At the bounds of every section, UNDEF's too, and at the end of the mapped pages.
 pub fn all(image: &[u8], marks: &[u8], arch: Arch, table: &[u8], n: u16, pages: u16) {
-    let mut i: u16 = 0;
-    while i < n {
+    for i in 0..n {
         range(
             image,
             marks,
@@ -13,22 +12,21 @@ pub fn all(image: &[u8], marks: &[u8], arch: Arch, table: &[u8], n: u16, pages: 
             boundary::word(table, i, boundary::START),
             boundary::word(table, i, boundary::END),
         );
-        i += 1;
     }
-    let end = BASE + pages as u64 * PAGE_SIZE;
+    let end = BASE + u64::from(pages) * PAGE_SIZE;
     at(image, marks, arch, end - 4);
     at(image, marks, arch, end);
 }
 
 fn range(image: &[u8], marks: &[u8], arch: Arch, start: u64, end: u64) {
     at(image, marks, arch, start);
-    at(image, marks, arch, std::num::wrapping_sub_u64(end, 4));
-    at(image, marks, arch, std::num::wrapping_sub_u64(end, 8));
+    at(image, marks, arch, end.wrapping_sub(4));
+    at(image, marks, arch, end.wrapping_sub(8));
 }
 
 // An address and an offset at the offset from the base; the same at the address.
 fn at(image: &[u8], marks: &[u8], arch: Arch, a: u64) {
-    let o = std::num::wrapping_sub_u64(a, BASE);
+    let o = a.wrapping_sub(BASE);
     cases::address(b"pointer ", a);
     say::address(pointers::read_va_at_rva(image, marks, arch, RVA(o)));
     say::offset(pointers::read_rva_at_rva(image, marks, arch, RVA(o)));

@@ -1,6 +1,6 @@
 // Answers on standard output. A word that many lines have is written in one place, since each place that lends one is proved.
-use answers::{AddressAnswer, OffsetAnswer};
-use nearest::RoutineAnswer;
+use arch::{RVA, VA};
+use nearest::Routine;
 use refusal::Refusal;
 
 // The end of a line.
@@ -19,8 +19,8 @@ pub fn place(n: u64) {
 }
 
 // The word `refused`, and the number.
-pub fn refused(n: u64) {
-    cases::part(b" refused ", n);
+pub fn refused(r: Refusal) {
+    cases::part(b" refused ", r.number());
 }
 
 // A name, as its bytes.
@@ -33,7 +33,7 @@ pub fn name(s: &[u8]) {
 pub fn number(n: Result<u64, Refusal>) {
     match n {
         Ok(k) => value(k),
-        Err(k) => refused(k),
+        Err(r) => refused(r),
     }
 }
 
@@ -41,7 +41,7 @@ pub fn number(n: Result<u64, Refusal>) {
 pub fn address(a: Result<VA, Refusal>) {
     match a {
         Ok(va) => place(va.0),
-        AddressErr(k) => refused(k),
+        Err(r) => refused(r),
     }
 }
 
@@ -49,7 +49,7 @@ pub fn address(a: Result<VA, Refusal>) {
 pub fn offset(a: Result<RVA, Refusal>) {
     match a {
         Ok(rva) => place(rva.0),
-        OffsetErr(k) => refused(k),
+        Err(r) => refused(r),
     }
 }
 
@@ -60,7 +60,7 @@ pub fn routine(a: Result<Routine, Refusal>) {
             value(r.symbol);
             value(r.distance);
         }
-        RoutineErr(k) => refused(k),
+        Err(r) => refused(r),
     }
 }
 

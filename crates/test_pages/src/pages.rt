@@ -97,7 +97,14 @@ fn filled(question: u8, start: RVA, end: RVA, image: &[u8], marks: &[u8], buf: &
     shown(buf);
 }
 
-fn into(question: u8, start: RVA, end: RVA, image: &[u8], marks: &[u8], buf: &mut [u8]) -> Result<(), Refusal> {
+fn into(
+    question: u8,
+    start: RVA,
+    end: RVA,
+    image: &[u8],
+    marks: &[u8],
+    buf: &mut [u8],
+) -> Result<(), Refusal> {
     match question {
         6 => pagemap::slice_into(image, marks, start, buf),
         _ => pagemap::slice(image, marks, start, end, buf),

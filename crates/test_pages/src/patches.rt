@@ -1,7 +1,8 @@
 // Questions to `patch`.
 use arch::VA;
 use limits::{FIXUP_BITS, FIXUP_BYTES, FIXUP_VALUE, WORD};
-use patch::Patch;
+use patch::Progress;
+use refusal::Refusal;
 
 pub(crate) fn fix(line: &[u8], list: &mut [u8]) {
     let at = (cases::number_at(line, 1) % 3) as usize * FIXUP_BYTES;
@@ -36,10 +37,10 @@ pub(crate) fn patch(line: &[u8], image: &mut [u8], marks: &[u8], given: &[u8]) {
 fn told(answer: Result<Progress, Refusal>) {
     cases::text(b" =");
     match answer {
-        Err(code) => cases::refused(code),
         Ok(p) => {
             cases::decimal(p.position);
             cases::yes(p.done);
         }
+        Err(r) => cases::refused(r),
     }
 }

@@ -40,7 +40,12 @@ pub fn write<P: Place>(image: &mut [u8], marks: &[u8], at: P, v: &[u8]) -> Resul
 }
 
 // A number of N bytes: the N low bytes of v. A signed number is in two's complement.
-pub fn write_number<const N: usize, P: Place>(image: &mut [u8], marks: &[u8], at: P, v: u64) -> Result<(), Refusal>
+pub fn write_number<const N: usize, P: Place>(
+    image: &mut [u8],
+    marks: &[u8],
+    at: P,
+    v: u64,
+) -> Result<(), Refusal>
     ensures { Leaves (write_code_there (P.reaches at N) (length image.old) marks.now (P.start at) N)
         image.old (splice image.old (P.start at) (le N v)) image.new result }
 {

@@ -1,4 +1,4 @@
-use Rattle.std.proofs.Common.{ℕ, ◌+◌, ◌*◌, ◌≡◌}
+use Rattle.std.proofs.Common.{◌+◌, ◌*◌, ◌≡◌}
 use Rattle.le.specs.Le.{splice}
 use Rattle.stops.specs.Stops.{BLOCK, stop_words}
 use Rattle.stops.specs.StopLaws.{Serves}

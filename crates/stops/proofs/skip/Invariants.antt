@@ -1,4 +1,4 @@
-use Rattle.std.proofs.Common.{ℕ, ◌+◌, ◌-◌, ◌≡◌}
+use Rattle.std.proofs.Common.{◌+◌, ◌-◌, ◌≡◌}
 use Rattle.stops.specs.Stops.{skip_to, skip, TAILS}
 use Rattle.stops.proofs.skip.Given as goal
 
