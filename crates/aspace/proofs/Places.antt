@@ -1,6 +1,6 @@
 -- The ways through the offsets of places and through the readers, as the code asks them.
 use Rattle.refusal.specs.declared.Refusal.{Refusal}
-use Rattle.std.specs.Prelude.{◌≡◌, refl, Bool, true, false, List, ℕ, zero, suc, ◌+◌, ◌-◌, ◌^◌, ◌<◌, ◌≤◌, max, length, get_or, Result, Ok, Err, take, drop, leb, ltb, Option, Some, None}
+use Rattle.std.specs.Prelude.{◌≡◌, refl, Bool, true, false, List, ℕ, zero, suc, ◌+◌, ◌-◌, ◌^◌, ◌<◌, ◌≤◌, max, length, get_or, Result, Ok, Err, take, drop, leb, Option, Some, None}
 use Rattle.std.proofs.Common.{sym, ap, ◌∙◌, arith, le-leb, suc-add, zero-add}
 use Rattle.std.proofs.lemmas.Bool.{lt-leb}
 use Rattle.std.proofs.Math.Bool.{and-false}
@@ -9,10 +9,11 @@ use Rattle.util.specs.Pick.{pick, and_right}
 use Rattle.arch.specs.declared.RVA.{RVA}
 use Rattle.arch.specs.Address.{rva, offset_of}
 use Rattle.le.specs.Le.{get, part, get_same, part_at, part_most}
-use Rattle.refusal.specs.Refusal.{Code, PASSES, NOT_MAPPED, STORAGE, answer_of, unless_refused, Leaves}
+use Rattle.refusal.specs.Refusal.{Code, PASSES, NOT_MAPPED, STORAGE, answer_of}
 use Rattle.pagemap.specs.Pages.{storage_ok, span_mapped}
 use Rattle.pagemap.specs.PageLaws.{span_in_lem}
 use Rattle.aspace.specs.Space.{reached}
+use Rattle.aspace.specs.SpaceLaws.{some_picked, none_picked}
 use Rattle.aspace.specs.Places.{span_there, read_code_there, bytes_code_there}
 
 -- ---- an address: below the base; past 64 bits; reached
@@ -45,28 +46,18 @@ offset_in base a n e h = rw (e, le-leb (a + max n 1) (2 ^ 64) h)
 
 -- ---- n bytes at a place: its offset is none, or what is there is mapped or not
 module _ (r : Bool) (size : ℕ) (marks : List ℕ) (o n : ℕ) (x : Option RVA) where
-  none_by : (t : Bool) → pick t (Some (rva o)) None ≡ None → t ≡ false
-  unfolding pick
-  none_by true h = cc
-  none_by false h = refl
-
-  some_by : (p : RVA) (t : Bool) → pick t (Some (rva o)) None ≡ Some p → (t ≡ true) × (p ≡ rva o)
-  unfolding pick
-  some_by p true h = (refl, cc)
-  some_by p false h = cc
-
   pub found_out : (y : Option RVA) → x ≡ pick r (Some (rva o)) None → x ≡ None → y ≡ None → y ≡ pick (span_there r size marks o n) (Some (rva o)) None
   unfolding span_there pick
-  found_out y e h q = rw (none_by r (sym e ∙ h)) q
+  found_out y e h q = rw (none_picked o r (sym e ∙ h)) q
 
   module _ (p : RVA) (m : Bool) (e : x ≡ pick r (Some (rva o)) None) (h : x ≡ Some p) (q : m ≡ span_mapped size marks p.0 n) where
     pub found_in : m ≡ true → Some p ≡ pick (span_there r size marks o n) (Some (rva o)) None
     unfolding span_there pick
-    found_in z = let k = some_by p r (sym e ∙ h) in let s : span_mapped size marks o n ≡ true = rw k.1 at (sym q ∙ z) in rw (k.0, s, k.1)
+    found_in z = let k = some_picked o r p (sym e ∙ h) in let s : span_mapped size marks o n ≡ true = rw k.1 at (sym q ∙ z) in rw (k.0, s, k.1)
 
     pub found_no : m ≡ false → None ≡ pick (span_there r size marks o n) (Some (rva o)) None
     unfolding span_there pick
-    found_no z = let k = some_by p r (sym e ∙ h) in let s : span_mapped size marks o n ≡ false = rw k.1 at (sym q ∙ z) in rw (k.0, s)
+    found_no z = let k = some_picked o r p (sym e ∙ h) in let s : span_mapped size marks o n ≡ false = rw k.1 at (sym q ∙ z) in rw (k.0, s)
 
 pub ruleset finds = (found_out, found_in, found_no)
 
@@ -76,33 +67,23 @@ module _ (r : Bool) (size : ℕ) (marks : List ℕ) (o n : ℕ) (ok : Bool) (is 
   unfolding read_code_there pick
   read_bad e = rw (← is, e)
 
-  there_by : (p : RVA) (t : Bool) → pick t (Some (rva o)) None ≡ Some p → (t ≡ true) × (p ≡ rva o)
-  unfolding pick
-  there_by p true h = (refl, cc)
-  there_by p false h = cc
-
-  there_none : (t : Bool) → pick t (Some (rva o)) None ≡ None → t ≡ false
-  unfolding pick
-  there_none true h = cc
-  there_none false h = refl
-
   module _ (x : Option RVA) (yes : ok ≡ true) (e : x ≡ pick (span_there r size marks o n) (Some (rva o)) None) where
     pub read_nowhere : x ≡ None → read_code_there r size marks o n ≡ NOT_MAPPED
     unfolding read_code_there pick
-    read_nowhere h = rw (← is, yes, there_none (span_there r size marks o n) (sym e ∙ h))
+    read_nowhere h = rw (← is, yes, none_picked o (span_there r size marks o n) (sym e ∙ h))
 
     pub read_there : (p : RVA) → x ≡ Some p → read_code_there r size marks o n ≡ PASSES
     unfolding read_code_there pick
-    read_there p h = rw (← is, yes, (there_by p (span_there r size marks o n) (sym e ∙ h)).0)
+    read_there p h = rw (← is, yes, (some_picked o (span_there r size marks o n) p (sym e ∙ h)).0)
 
     pub read_at : (p : RVA) → x ≡ Some p → p ≡ rva o
-    read_at p h = (there_by p (span_there r size marks o n) (sym e ∙ h)).1
+    read_at p h = (some_picked o (span_there r size marks o n) p (sym e ∙ h)).1
 
     -- and they lie within the image
     pub read_inside : (p : RVA) → x ≡ Some p → p.0 + n ≤ size
     unfolding span_there
     read_inside p h =
-        let k = there_by p (span_there r size marks o n) (sym e ∙ h) in
+        let k = some_picked o (span_there r size marks o n) p (sym e ∙ h) in
         let w = span_in_lem size marks o n (and_right r (span_mapped size marks o n) k.0) in
         let q : p.0 ≡ o = ap (λ (z : RVA). z.0) k.1 in
         omega arith
@@ -114,7 +95,7 @@ pub part_there : (l : List ℕ) (i n o : ℕ) → i ≡ o → take (i + n - i) (
 unfolding part
 part_there l i n o q = let z : i + n - i ≡ n = omega arith in rw (z, q)
 
--- ---- what a reader says and leaves, by the code
+-- ---- the number that a reader answers, by the code
 module _ (code : Code) where
   pub number_refused : (v : ℕ) (r : Refusal) (y : Result ℕ Refusal) → code ≡ Err r → y ≡ Err r → y ≡ answer_of code v
   unfolding answer_of
@@ -123,15 +104,6 @@ module _ (code : Code) where
   pub number_read : (v : ℕ) (y : ℕ) → code ≡ PASSES → y ≡ v → Ok y ≡ answer_of code v
   unfolding answer_of
   number_read v y e q = rw (e, q)
-
-  module _ (old new : List ℕ) where
-    pub leaves_kept : (r : Refusal) (y : Code) → code ≡ Err r → y ≡ Err r → Leaves code old new old y
-    unfolding unless_refused
-    leaves_kept r y e q = record { says = q ∙ sym e; leaves = rw e }
-
-    pub leaves_new : (x : List ℕ) → code ≡ PASSES → x ≡ new → Leaves code old new x (Ok tt)
-    unfolding unless_refused
-    leaves_new x e q = record { says = sym e; leaves = rw e q }
 
 -- with a buffer that is long enough, or short
 module _ (r : Bool) (size : ℕ) (marks : List ℕ) (o n room : ℕ) where

@@ -1,7 +1,7 @@
 -- Numbers and runs of bytes at any place: `reached` says whether all of n bytes from there are reached, and o is their offset where they are.
 -- Then what this is at an offset, at an address and from a slice's start.
 use Rattle.refusal.specs.declared.Refusal.{Refusal}
-use Rattle.std.specs.Prelude.{◌≡◌, refl, Bool, true, false, ◌&&◌, List, ℕ, ◌+◌, ◌-◌, ◌^◌, ◌<◌, ◌≤◌, length, leb, ltb, Result}
+use Rattle.std.specs.Prelude.{◌≡◌, refl, Bool, true, ◌&&◌, List, ℕ, ◌+◌, ◌-◌, ◌^◌, ◌<◌, length, leb, ltb, Result}
 use Rattle.std.proofs.Common.{⊎_elim, arith, lt-ltb, le-ltb}
 use Rattle.util.specs.Pick.{pick, le_or_lt}
 use Rattle.le.specs.Le.{get}

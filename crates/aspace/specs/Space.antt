@@ -1,6 +1,6 @@
 -- Numbers and runs of bytes in the two spaces: by offset from the base, and by address (01, "aspace.rs" and the refusals of read).
 use Rattle.refusal.specs.declared.Refusal.{Refusal}
-use Rattle.std.specs.Prelude.{Bool, ◌&&◌, List, ℕ, ◌+◌, ◌-◌, ◌^◌, max, length, leb, Result, Ok, Err}
+use Rattle.std.specs.Prelude.{Bool, ◌&&◌, List, ℕ, ◌+◌, ◌-◌, ◌^◌, max, length, leb, Result}
 use Rattle.util.specs.Pick.{pick}
 use Rattle.le.specs.Le.{get}
 use Rattle.refusal.specs.Refusal.{Code, PASSES, STORAGE, NOT_MAPPED, answer_of}

@@ -1,13 +1,16 @@
 -- What holds of the spaces' definitions, as later layers ask it.
-use Rattle.refusal.specs.Refusal.{Code}
-use Rattle.std.specs.Prelude.{◌≡◌, refl, Bool, List, length, Ok, Err}
-use Rattle.std.proofs.Common.{◌∙◌, ⊎_elim}
+use Rattle.refusal.specs.declared.Refusal.{Refusal}
+use Rattle.refusal.specs.Refusal.{Code, PASSES}
+use Rattle.std.specs.Prelude.{◌≡◌, refl, Bool, List, length, Some, None, Ok, Err}
+use Rattle.std.proofs.Common.{sym, ◌∙◌, ⊎_elim}
 use Rattle.std.proofs.Math.Bool.{true, false}
-use Prim.Native.Nat.{ℕ, zero, suc, ◌+◌, ◌-◌, ◌^◌, ◌≤◌, ◌<◌, max}
+use Prim.Native.Nat.{ℕ, ◌+◌, ◌-◌, ◌^◌, ◌≤◌, ◌<◌, max}
 use native.Mathlib.Omega.{arith}
 use Rattle.std.proofs.Math.Dec.{leb}
 use borrow.Author.Tests.{le-leb}
 use Rattle.util.specs.Pick.{pick, yes_no}
+use Rattle.arch.specs.declared.RVA.{RVA}
+use Rattle.arch.specs.Address.{rva}
 use Rattle.refusal.specs.Refusal.{unless_refused, Leaves}
 use Rattle.pagemap.specs.Pages.{span_mapped, read_code}
 use Rattle.pagemap.specs.PageLaws.{span_in_lem}
@@ -58,7 +61,28 @@ module _ (size : ℕ) (marks : List ℕ) (base a n o : ℕ) (fits : size < 2 ^ 6
   offset_there = there_by (reached base a n) refl
 
 -- ---- a refusal leaves the same, whatever would have been written
-pub leaves_same : {A : Type 0} (code : Code) (old new other x : A) (r : Code) → ((u : Unit) → code ≡ Ok u → new ≡ other) → Leaves code old new x r → Leaves code old other x r
+pub leaves_same : {A : Type 0} (code : Code) (old new other x : A) (r : Code) → (code ≡ PASSES → new ≡ other) → Leaves code old new x r → Leaves code old other x r
 unfolding unless_refused
-leaves_same (Ok u) old new other x r e l = record { says = l.says; leaves = l.leaves ∙ e u refl }
+leaves_same (Ok u) old new other x r e l = record { says = l.says; leaves = l.leaves ∙ e refl }
 leaves_same (Err k) old new other x r e l = record { says = l.says; leaves = l.leaves }
+
+-- ---- an offset that stands where a test holds tells how the test went
+pub some_picked : (o : ℕ) (t : Bool) (p : RVA) → pick t (Some (rva o)) None ≡ Some p → (t ≡ true) × (p ≡ rva o)
+unfolding pick
+some_picked o true p h = (refl, cc)
+some_picked o false p h = cc
+
+pub none_picked : (o : ℕ) (t : Bool) → pick t (Some (rva o)) None ≡ None → t ≡ false
+unfolding pick
+none_picked o true h = cc
+none_picked o false h = refl
+
+-- ---- what an operation says and leaves, by the code of its check: a refusal is handed on, and what passes is written
+module _ {A : Type 0} (code : Code) (old new : A) where
+  pub leaves_kept : (k : Refusal) (r : Code) → code ≡ Err k → r ≡ Err k → Leaves code old new old r
+  unfolding unless_refused
+  leaves_kept k r e q = record { says = q ∙ sym e; leaves = rw e }
+
+  pub leaves_new : (x : A) → code ≡ PASSES → x ≡ new → Leaves code old new x (Ok tt)
+  unfolding unless_refused
+  leaves_new x e q = record { says = sym e; leaves = rw e q }

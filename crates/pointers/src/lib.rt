@@ -17,7 +17,7 @@ pub fn read_va<P: Place>(image: &[u8], marks: &[u8], arch: Arch, at: P) -> Resul
     aspace::read_pointer(image, marks, arch, at).map(|v| VA(v))
 }
 
-// The offset that stands there.
+// The offset that stands there. One function for both would need a trait of `VA` and `RVA`, which is no plainer than two lines.
 pub fn read_rva<P: Place>(image: &[u8], marks: &[u8], arch: Arch, at: P) -> Result<RVA, Refusal>
     ensures { result ≡ as_offset (read_number_there (pointer_size arch) (P.reaches at (pointer_size arch)) image.now marks.now (P.start at)) }
 {

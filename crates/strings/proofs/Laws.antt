@@ -1,15 +1,15 @@
 -- The ways through the strings, as the code asks them.
 use Rattle.refusal.specs.declared.Refusal.TheVariants.{Storage, NotMapped}
-use Rattle.std.specs.Prelude.{◌≡◌, refl, Bool, true, false, ◌&&◌, ◌||◌, List, ℕ, suc, ◌+◌, ◌-◌, ◌<◌, ◌≤◌, max, length, get_or, leb, ltb, eqb, Option, Some, None, Result, Ok, Err}
-use Rattle.std.proofs.Common.{sym, ap, ◌∙◌, arith, le-leb, le-ltb, lt-ltb}
+use Rattle.std.specs.Prelude.{◌≡◌, Bool, true, false, List, ℕ, suc, ◌+◌, ◌-◌, ◌<◌, ◌≤◌, max, length, get_or, Option, Some, None, Ok, Err}
+use Rattle.std.proofs.Common.{sym, ap, ◌∙◌, arith, le-leb}
 use Rattle.std.proofs.Math.Bool.{and-false}
 use Rattle.std.proofs.lemmas.Bool.{lt-leb}
 use Rattle.util.specs.Pick.{pick}
 use Rattle.arch.specs.declared.RVA.{RVA}
 use Rattle.arch.specs.Address.{rva}
 use Rattle.pagemap.specs.Pages.{storage_ok, probed}
-use Rattle.strings.specs.declared.Text.{Text}
-use Rattle.strings.specs.Ascii.{Ascii, is_text, text_in, text_length, ascii_of, ascii_there}
+use Rattle.aspace.specs.SpaceLaws.{some_picked, none_picked}
+use Rattle.strings.specs.Ascii.{is_text, text_in, text_length, ascii_of, ascii_there}
 
 left_suc : (i l : ℕ) → i < l → l - i ≡ suc (l - (i + 1))
 left_suc i l h = omega arith
@@ -50,31 +50,21 @@ module _ (r : Bool) (image marks : List ℕ) (o minimum : ℕ) (ok : Bool) (is :
   unfolding ascii_there
   ascii_bad e = bad_by r e
 
-  none_by : (t : Bool) → pick t (Some (rva o)) None ≡ None → t ≡ false
-  unfolding pick
-  none_by true h = cc
-  none_by false h = refl
-
-  some_by : (p : RVA) (t : Bool) → pick t (Some (rva o)) None ≡ Some p → (t ≡ true) × (p ≡ rva o)
-  unfolding pick
-  some_by p true h = (refl, cc)
-  some_by p false h = cc
-
   module _ (x : Option RVA) (yes : ok ≡ true) (e : x ≡ pick r (Some (rva o)) None) where
     pub ascii_nowhere : x ≡ None → Err NotMapped ≡ ascii_there r image marks o minimum
     unfolding ascii_there pick
-    ascii_nowhere h = rw (← is, yes, none_by r (sym e ∙ h))
+    ascii_nowhere h = rw (← is, yes, none_picked o r (sym e ∙ h))
 
     module _ (p : RVA) (n : ℕ) (h : x ≡ Some p) (q : n ≡ text_length image marks p.0) where
       length_by : n ≡ text_length image marks o
-      length_by = let k : p.0 ≡ o = ap (λ (z : RVA). z.0) (some_by p r (sym e ∙ h)).1 in cc
+      length_by = let k : p.0 ≡ o = ap (λ (z : RVA). z.0) (some_picked o r p (sym e ∙ h)).1 in cc
 
       pub ascii_short : n < minimum → Ok None ≡ ascii_there r image marks o minimum
       unfolding ascii_there ascii_of pick
-      ascii_short z = rw (← is, yes, (some_by p r (sym e ∙ h)).0, ← length_by, lt-leb minimum n z)
+      ascii_short z = rw (← is, yes, (some_picked o r p (sym e ∙ h)).0, ← length_by, lt-leb minimum n z)
 
       pub ascii_text : minimum ≤ n → Ok (Some (record { start = p; length = n })) ≡ ascii_there r image marks o minimum
       unfolding ascii_there ascii_of pick
-      ascii_text z = rw (← is, yes, (some_by p r (sym e ∙ h)).0, ← length_by, le-leb minimum n z, (some_by p r (sym e ∙ h)).1)
+      ascii_text z = rw (← is, yes, (some_picked o r p (sym e ∙ h)).0, ← length_by, le-leb minimum n z, (some_picked o r p (sym e ∙ h)).1)
 
 pub ruleset asciis = (ascii_bad, ascii_nowhere)

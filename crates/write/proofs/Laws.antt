@@ -1,13 +1,13 @@
 -- The ways through the writers, as the code asks them.
 use Rattle.refusal.specs.declared.Refusal.{Refusal}
 use Rattle.refusal.specs.declared.Refusal.TheVariants.{NotMapped}
-use Rattle.std.specs.Prelude.{◌≡◌, refl, Bool, true, false, List, ℕ, ◌<◌, ◌≤◌, length, leb, Option, Some, None, Result, Ok, Err, ok_or, IfOk, IfErr, OnOk}
-use Rattle.std.proofs.Common.{sym, ◌∙◌, le-leb}
+use Rattle.std.specs.Prelude.{◌≡◌, refl, Bool, true, false, List, ℕ, ◌<◌, ◌≤◌, length, Option, Some, None, Result, Err, ok_or, IfOk, IfErr, OnOk}
+use Rattle.std.proofs.Common.{le-leb}
 use Rattle.std.proofs.lemmas.Bool.{lt-leb}
 use Rattle.util.specs.Pick.{pick}
 use Rattle.arch.specs.declared.RVA.{RVA}
 use Rattle.arch.specs.Address.{rva}
-use Rattle.refusal.specs.Refusal.{Code, PASSES, STORAGE, TOO_LONG, unless_refused, Leaves}
+use Rattle.refusal.specs.Refusal.{PASSES, STORAGE, TOO_LONG}
 use Rattle.pagemap.specs.Pages.{storage_ok}
 use Rattle.aspace.specs.Places.{span_there}
 use Rattle.write.specs.Write.{MAX_WRITE, write_code_there}
@@ -47,13 +47,3 @@ pub write_at : (t : Bool) (o : ℕ) (x : Option RVA) (y : Result RVA Refusal) �
 write_at t o x y q e = rw (q, e) (at_by o t)
 
 pub ruleset codes = (write_bad, write_long, write_there, write_nowhere)
-
--- ---- what a writer says and leaves, by the code
-module _ (code : Code) (old new : List ℕ) where
-  pub leaves_kept : (r : Refusal) (y : Code) → code ≡ Err r → y ≡ Err r → Leaves code old new old y
-  unfolding unless_refused
-  leaves_kept r y e q = record { says = q ∙ sym e; leaves = rw e }
-
-  pub leaves_new : (x : List ℕ) → code ≡ PASSES → x ≡ new → Leaves code old new x (Ok tt)
-  unfolding unless_refused
-  leaves_new x e q = record { says = sym e; leaves = rw e q }

@@ -1,5 +1,5 @@
 -- What holds of a write, as later layers ask it.
-use Rattle.std.specs.Prelude.{◌≡◌, refl, true, List, ◌⊎◌, ℕ, ◌+◌, ◌-◌, ◌≤◌, ◌<◌, ◌^◌, max, length, get_or, leb, ltb, Ok}
+use Rattle.std.specs.Prelude.{◌≡◌, true, List, ◌⊎◌, ℕ, ◌+◌, ◌-◌, ◌≤◌, ◌<◌, ◌^◌, max, length, get_or, leb, ltb, Ok}
 use Rattle.std.proofs.Common.{⊎_elim, arith}
 use Rattle.util.specs.Pick.{pick, head_passes, rest_passes}
 use Rattle.le.specs.Le.{le, part, splice, length_splice, splice_below, splice_above, part_splice, get_splice}

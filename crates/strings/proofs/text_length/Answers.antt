@@ -1,4 +1,4 @@
-use Rattle.std.proofs.Common.{rules, arith, sym, ◌∙◌}
+use Rattle.std.proofs.Common.{arith, sym, ◌∙◌}
 use Rattle.strings.proofs.Laws.{text_begin, text_more, text_unmapped, text_other, text_end}
 use Rattle.strings.proofs.text_length.Goals.{then-probe, else-probe}
 use Rattle.strings.proofs.text_length.Goals as goal

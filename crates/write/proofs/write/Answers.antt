@@ -1,6 +1,6 @@
 use Rattle.std.proofs.Common.{rules, ◌∙◌, ap}
-use Rattle.le.specs.Le.{le, splice}
-use Rattle.write.proofs.Laws.{leaves_kept, leaves_new}
+use Rattle.le.specs.Le.{splice}
+use Rattle.aspace.specs.SpaceLaws.{leaves_kept, leaves_new}
 use Rattle.write.proofs.write.Goals as goal
 
 pub returns-in_err-offset : goal.returns-in_err-offset

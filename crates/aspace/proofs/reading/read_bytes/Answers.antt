@@ -1,6 +1,7 @@
 use Rattle.le.specs.Le.{splice}
-use Rattle.std.proofs.Common.{rules, arith, sym, ◌∙◌, ap}
-use Rattle.aspace.proofs.Places.{leaves_kept, leaves_new, bytes_fit, bytes_short}
+use Rattle.std.proofs.Common.{rules, arith, ◌∙◌, ap}
+use Rattle.aspace.specs.SpaceLaws.{leaves_kept, leaves_new}
+use Rattle.aspace.proofs.Places.{bytes_fit, bytes_short}
 use Rattle.aspace.proofs.reading.read_bytes.Goals as goal
 
 pub returns-then-out-n : goal.returns-then-out-n

@@ -1,5 +1,5 @@
-use Rattle.std.proofs.Common.{rules, arith, sym, ◌∙◌, ap}
-use Rattle.aspace.proofs.Places.{leaves_kept, leaves_new}
+use Rattle.std.proofs.Common.{rules, ◌∙◌}
+use Rattle.aspace.specs.SpaceLaws.{leaves_kept, leaves_new}
 use Rattle.aspace.proofs.reading.read_into.Goals as goal
 
 pub returns-in_err-bytes : goal.returns-in_err-bytes

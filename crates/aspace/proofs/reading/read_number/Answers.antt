@@ -1,5 +1,5 @@
 use Rattle.le.specs.Le.{get}
-use Rattle.std.proofs.Common.{rules, arith, sym, ◌∙◌, ap}
+use Rattle.std.proofs.Common.{rules, ◌∙◌, ap}
 use Rattle.aspace.proofs.Places.{number_refused, number_read, number_of_part}
 use Rattle.aspace.proofs.reading.read_number.Goals as goal
 
