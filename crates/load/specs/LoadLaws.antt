@@ -17,7 +17,7 @@ use Rattle.limits.specs.Limits.{MAX_PAGES, MAX_EXTERNS}
 use Rattle.limits.specs.Records.{SECTION_BYTES, SYMBOL_BYTES, EXTERN_BYTES, FIXUP_BYTES, SKIP_BYTES}
 use Rattle.externs.specs.Externs.{externs}
 use Rattle.fixups.specs.Tally.{is_fixup, is_skipped, how_many, tally_of}
-use Rattle.refusal.specs.declared.Refusal.TheVariants.{Base, Target, Place, Storage}
+use Rattle.refusal.specs.declared.Refusal.TheVariants as refusals
 use Rattle.refusal.specs.Refusal.{Code, PASSES, PLACE, STORAGE, answer_of, unless_refused}
 use Rattle.survey.specs.declared.answer.Counts.{Counts}
 use Rattle.homes.specs.Listed.{listed_total}
@@ -71,7 +71,7 @@ module _ (f : List ℕ) (base : ℕ) (s s' : Storage) (c : Counts) (loads : Load
   late = target_checks (tally f h) ++ (check (room_ok (counts f h) s) STORAGE ∷ [])
 
   records : first_failed (checks f h ++ (check (room_ok (counts f h) s) STORAGE ∷ [])) ≡ PASSES
-  records = checks_hold (base_ok base) Base (checks f h ++ (check (room_ok (counts f h) s) STORAGE ∷ [])) told.0
+  records = checks_hold (base_ok base) refusals.Base (checks f h ++ (check (room_ok (counts f h) s) STORAGE ∷ [])) told.0
 
   in_order : Ordered f h
   in_order = ordered f h (extern_checks (length (externs f h)) ++ late) records
@@ -89,13 +89,13 @@ module _ (f : List ℕ) (base : ℕ) (s s' : Storage) (c : Counts) (loads : Load
   last = check (room_ok (counts f h) s) STORAGE ∷ []
 
   none_refused : eqb (tally f h).refused 0 ≡ true
-  none_refused = check_holds (eqb (tally f h).refused 0) Target (check (eqb (tally f h).outside 0) PLACE ∷ last) targets
+  none_refused = check_holds (eqb (tally f h).refused 0) refusals.Target (check (eqb (tally f h).outside 0) PLACE ∷ last) targets
 
   inside : first_failed (check (eqb (tally f h).outside 0) PLACE ∷ last) ≡ PASSES
-  inside = checks_hold (eqb (tally f h).refused 0) Target (check (eqb (tally f h).outside 0) PLACE ∷ last) targets
+  inside = checks_hold (eqb (tally f h).refused 0) refusals.Target (check (eqb (tally f h).outside 0) PLACE ∷ last) targets
 
   none_outside : eqb (tally f h).outside 0 ≡ true
-  none_outside = check_holds (eqb (tally f h).outside 0) Place last inside
+  none_outside = check_holds (eqb (tally f h).outside 0) refusals.Place last inside
 
   survey_accepts : survey_of f ≡ Ok c
   unfolding answer_of first_failed pick
@@ -110,8 +110,8 @@ module _ (f : List ℕ) (base : ℕ) (s s' : Storage) (c : Counts) (loads : Load
   load_accepts =
       record {
         accepted = survey_accepts;
-        allowed = check_holds (base_ok base) Base (checks f h ++ (check (room_ok (counts f h) s) STORAGE ∷ [])) told.0;
-        room = rw (← told.1) (check_holds (room_ok (counts f h) s) Storage [] (checks_hold (eqb (tally f h).outside 0) Place last inside));
+        allowed = check_holds (base_ok base) refusals.Base (checks f h ++ (check (room_ok (counts f h) s) STORAGE ∷ [])) told.0;
+        room = rw (← told.1) (check_holds (room_ok (counts f h) s) refusals.Storage [] (checks_hold (eqb (tally f h).outside 0) refusals.Place last inside));
         counted = told.1;
         names = leb-true (length (externs f h)) MAX_EXTERNS few_names;
         pages = leb-true (mapped_pages f h) MAX_PAGES in_order.pages;

@@ -39,7 +39,6 @@ fn load_in<const SECTIONS: usize, const SYMBOLS: usize>(
 
 // Everything that survey counts, at a base, into lent storage; or a refusal, and no byte has changed.
 // The arrays are small where sections and symbols are few.
-#[tactic(auto, using(crate::proofs::Laws::sizes))]
 pub fn load(
     f: &[u8],
     base: VA,

@@ -12,7 +12,6 @@ use refusal::Refusal;
 use survey::Counts;
 
 // Everything that survey counts, or a refusal and no byte has changed; `homes` and `codes` are the caller's, and what is written is told where they held zeros.
-#[tactic(auto, using(crate::proofs::Laws::loads))]
 pub fn load_with(
     f: &[u8],
     base: VA,

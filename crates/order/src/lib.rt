@@ -94,7 +94,7 @@ fn text_key(s: &[u8]) -> u64
     ensures { result ≡ key KEY_BYTES (up_to_zero s.now) }
 {
     let mut sum = 0;
-    let mut at = 0;
+    let mut at: usize = 0;
     for i in 0..KEY_BYTES {
         let b = le::byte_at(s, at);
         sum = push(sum, b);

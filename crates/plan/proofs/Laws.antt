@@ -1,5 +1,6 @@
 -- The ways through the code. Assumes nothing.
-use Rattle.refusal.specs.declared.Refusal.TheVariants.{Target, Place, Base, Externs, Pages, Storage}
+use Rattle.refusal.specs.declared.Refusal.TheVariants.{Place, Base, Externs, Pages, Storage}
+use Rattle.refusal.specs.declared.Refusal.TheVariants as refusals
 use Rattle.refusal.specs.declared.Refusal.{Refusal}
 use Rattle.std.specs.Prelude.{Result, Ok, Err, Option, Some, None, ok_or}
 use mathlib.Core.Path.{◌≡◌, refl, sym, ap, ◌∙◌}
@@ -65,22 +66,15 @@ by_size s n len h =
     (le_or_lt n (len / s)))
 
 module _ (c : Counts) (l : Lengths) where
-  pub layout_is : (r x : Bool) (m : ℕ) → r ≡ (leb c.pages (l.image / PAGE_SIZE) && x) → x ≡ (leb m (l.marks / WORD_BYTES) && leb c.sections (l.sections / SECTION_BYTES)) → m ≡ words_for c.pages
-      → r ≡ layout_room c l
+  pub layout_is : layout_room c l ≡ (leb c.pages (l.image / PAGE_SIZE) && (leb (words_for c.pages) (l.marks / WORD_BYTES) && leb c.sections (l.sections / SECTION_BYTES)))
   unfolding layout_room
-  layout_is r x m e d q =
-      rw (← by_size PAGE_SIZE c.pages l.image (omega arith), ← by_size WORD_BYTES (words_for c.pages) l.marks (omega arith), ← by_size SECTION_BYTES c.sections l.sections (omega arith), ← q, ← d) e
+  layout_is = rw (by_size PAGE_SIZE c.pages l.image (omega arith), by_size WORD_BYTES (words_for c.pages) l.marks (omega arith), by_size SECTION_BYTES c.sections l.sections (omega arith))
 
-  pub lists_are : (r x y : Bool) → r ≡ (leb c.symbols (l.symbols / SYMBOL_BYTES) && x) → x ≡ (leb c.externs (l.externs / EXTERN_BYTES) && y)
-      → y ≡ (leb c.fixups (l.fixups / FIXUP_BYTES) && leb c.skips (l.skips / SKIP_BYTES)) → r ≡ lists_room c l
+  pub lists_are : lists_room c l
+      ≡ (leb c.symbols (l.symbols / SYMBOL_BYTES) && (leb c.externs (l.externs / EXTERN_BYTES) && (leb c.fixups (l.fixups / FIXUP_BYTES) && leb c.skips (l.skips / SKIP_BYTES))))
   unfolding lists_room
-  lists_are r x y e d w =
-      rw (← by_size SYMBOL_BYTES c.symbols l.symbols (omega arith), ← by_size EXTERN_BYTES c.externs l.externs (omega arith), ← by_size FIXUP_BYTES c.fixups l.fixups (omega arith), ← by_size SKIP_BYTES c.skips l.skips (omega arith), ← w, ← d) e
-
-  pub room_is : (r x y : Bool) → r ≡ (x && y) → x ≡ layout_room c l → y ≡ lists_room c l → r ≡ room_for c l
-  room_is r x y e d w = rw (← d, ← w) e
-
-pub ruleset rooms = (layout_is, lists_are, room_is)
+  lists_are =
+      rw (by_size SYMBOL_BYTES c.symbols l.symbols (omega arith), by_size EXTERN_BYTES c.externs l.externs (omega arith), by_size FIXUP_BYTES c.fixups l.fixups (omega arith), by_size SKIP_BYTES c.skips l.skips (omega arith))
 
 -- ---- 13 behind survey's answer
 module _ (s : Result Counts Refusal) (l : Lengths) (n : ℕ) where
@@ -102,8 +96,8 @@ pub ruleset room_ways = (room_refused, room_yes, room_no)
 -- ---- checks that pass hand on
 targets_pass : (t : Tally) → first_failed (target_checks t) ≡ PASSES → (eqb t.refused 0 ≡ true) × (eqb t.outside 0 ≡ true)
 targets_pass t e =
-    let a : first_failed (check (eqb t.outside 0) PLACE ∷ []) ≡ PASSES = checks_hold _ Target (check (eqb t.outside 0) PLACE ∷ []) e in
-    (check_holds _ Target (check (eqb t.outside 0) PLACE ∷ []) e, check_holds _ Place [] a)
+    let a : first_failed (check (eqb t.outside 0) PLACE ∷ []) ≡ PASSES = checks_hold _ refusals.Target (check (eqb t.outside 0) PLACE ∷ []) e in
+    (check_holds _ refusals.Target (check (eqb t.outside 0) PLACE ∷ []) e, check_holds _ Place [] a)
 
 targets_rest : (t : Tally) (cs : List Check) → first_failed (target_checks t) ≡ PASSES → first_failed (target_checks t ++ cs) ≡ first_failed cs
 unfolding first_failed pick

@@ -1,7 +1,7 @@
 -- What a plan tells: its code; and that each buffer has room for what is counted.
 use Rattle.refusal.specs.declared.Refusal.{Refusal}
 use Rattle.std.specs.Prelude.{◌≡◌, refl, true, false, ◌&&◌, ℕ, ◌*◌, ◌≤◌, leb, Ok, Err}
-use Rattle.std.proofs.Common.{leb-true}
+use Rattle.std.proofs.Common.{ap, leb-true}
 use Rattle.limits.specs.Records.{SECTION_BYTES, SYMBOL_BYTES, EXTERN_BYTES, FIXUP_BYTES, SKIP_BYTES}
 use Rattle.util.specs.Pick.{and_left, and_right}
 use Rattle.refusal.specs.Refusal.{Code, PASSES, answer_of}
@@ -14,7 +14,9 @@ use Rattle.plan.specs.Plan.{layout_room, lists_room, plan_by}
 -- ---- a plan tells its code
 pub plan_says : (code : Code) (c : Counts) (n : ℕ) (a : Counts) (m : ℕ) → Ok (a, m) ≡ plan_by code c n → (code ≡ PASSES) × (a ≡ c) × (m ≡ n)
 unfolding answer_of
-plan_says (Ok u) c n a m e = (refl, cc, cc)
+plan_says (Ok u) c n a m e =
+    let p : (a, m) ≡ (c, n) = cc in
+    (refl, ap (λ (q : Counts × ℕ). q.0) p, ap (λ (q : Counts × ℕ). q.1) p)
 plan_says (Err r) c n a m e = cc
 
 pub plan_says_no : (code : Code) (c : Counts) (n : ℕ) (r : Refusal) → Err r ≡ plan_by code c n → code ≡ Err r

@@ -28,17 +28,16 @@ pub struct Lengths {
 }
 
 // The first three buffers have room.
-#[tactic(auto, using(crate::proofs::Laws::rooms))]
 fn layout_room(c: Counts, l: Lengths) -> bool
     ensures { result ≡ layout_room c l }
 {
+    let words = marks::words_for(c.pages);
     c.pages <= l.image as u64 / PAGE_SIZE
-        && marks::words_for(c.pages) <= l.marks as u64 / marks::WORD_BYTES
+        && words <= l.marks as u64 / marks::WORD_BYTES
         && c.sections <= l.sections as u64 / limits::SECTION_BYTES as u64
 }
 
 // The other four have room.
-#[tactic(auto, using(crate::proofs::Laws::rooms))]
 fn lists_room(c: Counts, l: Lengths) -> bool
     ensures { result ≡ lists_room c l }
 {
@@ -49,7 +48,6 @@ fn lists_room(c: Counts, l: Lengths) -> bool
 }
 
 // 13: each lent buffer has room for what is counted.
-#[tactic(auto, using(crate::proofs::Laws::rooms))]
 fn room_ok(c: Counts, l: Lengths) -> bool
     ensures { result ≡ room_for c l }
 {
@@ -106,7 +104,6 @@ fn check_first(f: &[u8], h: Header, base: VA) -> Result<(), Refusal>
 
 // All refusals in their order, or the counts and how many extern names there are; the arrays are the caller's, and what they then hold is told where they
 // held zeros. The length is said for a caller, who knows no more of a lent array than this.
-#[tactic(auto, using(crate::proofs::Laws::planning))]
 pub fn plan_file(
     f: &[u8],
     base: VA,

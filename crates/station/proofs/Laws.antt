@@ -1,6 +1,6 @@
 -- The ways through the code. Assumes nothing.
 use Rattle.refusal.specs.declared.Refusal.{Refusal}
-use Rattle.refusal.specs.declared.Refusal.TheVariants.{Storage}
+use Rattle.refusal.specs.declared.Refusal.TheVariants as refusals
 use Rattle.std.specs.Prelude.{Ok, Err, Result}
 use mathlib.Core.Path.{◌≡◌, refl, sym, ap, subst, ◌∙◌}
 use mathlib.Core.Bool.{Bool, true, false}
@@ -35,7 +35,7 @@ module _ (a : Result Counts Refusal) (c : Counts) (out : List ℕ) where
   unfolding survey_code counts_in pick
   counts_accepted out' e t d = rw e (record { says = rw t; result = rw t d })
 
-  pub counts_short : a ≡ Ok c → leb COUNTS_BYTES (length out) ≡ false → CountsTold a out out (Err Storage)
+  pub counts_short : a ≡ Ok c → leb COUNTS_BYTES (length out) ≡ false → CountsTold a out out (Err refusals.Storage)
   unfolding survey_code counts_in pick
   counts_short e t = rw e (record { says = rw t; result = rw t })
 

@@ -9,11 +9,11 @@ use mathlib.Core.Logic.{⊎_elim}
 use Prim.Native.Nat.{ℕ, zero, suc, ◌+◌, ◌-◌, ◌≤◌, ◌%◌, ◌^◌}
 use native.Mathlib.Omega.{arith}
 use lib.Dec.{eqb, leb}
-use lib.ListN.{length}
+use lib.ListN.{length, replicate, length-replicate}
 use borrow.Author.Tests.{not-true, not-false}
-use Rattle.limits.specs.Limits.{MAX_SECTIONS, FEW_SECTIONS, FEW_SYMBOLS, MAX_PAGES, MAX_EXTERNS}
+use Rattle.limits.specs.Limits.{MAX_SECTIONS, MAX_SYMBOLS, FEW_SECTIONS, FEW_SYMBOLS, MAX_PAGES, MAX_EXTERNS}
 use Rattle.refusal.specs.Refusal.{Code, PASSES, PAGES, answer_of, value_is, refusal_is}
-use Rattle.util.specs.Pick.{pick, yes_no, flag_yes, flag_no}
+use Rattle.util.specs.Pick.{pick, yes_no}
 use Rattle.le.specs.Le.{splice}
 use Rattle.codes.specs.Code.{codes_to}
 use Rattle.arch.specs.declared.Arch.{Arch}
@@ -41,8 +41,8 @@ use Rattle.fixups.specs.declared.Tally.{Tally}
 use Rattle.survey.specs.declared.answer.Counts.{Counts}
 use Rattle.survey.specs.Survey.{Check, check, first_failed, early_checks, page_checks, target_checks, extern_checks, tally_by, counts_by, tally, checks, counts, answer_by, survey_of}
 use Rattle.survey.specs.SurveyLaws.{Early, Ordered, failed_first, early, early_rest, with_pages, records_rest, sections_fit, fits_is}
-use Rattle.survey.specs.Surveying.{behind_pages, targets_answer, planned_by, names_in, answer_in, few_records, home_words, code_words, Cleared}
-use Rattle.survey.specs.TableLaws.{few_cleared, many_cleared, answer_whole}
+use Rattle.survey.specs.Surveying.{behind_pages, targets_answer, planned_by, names_in, answer_in, few_records, section_room, code_room, home_words, code_words, Cleared}
+use Rattle.survey.specs.TableLaws.{answer_whole}
 
 -- ---- the counts
 abbrev pub counts_of : Header → Tally → ℕ → ℕ → ℕ → ℕ → ℕ → Counts
@@ -182,7 +182,20 @@ module _ (f : List ℕ) (h : Header) (homes₀ codes₀ homes codes : List ℕ) 
 
 pub ruleset section_ways = (records_by, behind_no, pages_few)
 
-pub ruleset arrays = (few_cleared, many_cleared, flag_yes, flag_no)
+-- they are no larger than the large ones
+at_most : (b : Bool) (a n : ℕ) → a ≤ n → pick b a n ≤ n
+unfolding pick
+at_most true a n h = h
+at_most false a n h = omega arith
+
+pub room_low : (h : Header) (s y : ℕ) → Cleared h (replicate s 0) (replicate y 0) → (s ≤ MAX_SECTIONS) × (y ≤ MAX_SYMBOLS)
+unfolding section_room code_room
+room_low h s y c =
+    let a : s ≡ section_room h = sym (length-replicate s 0) ∙ ap length c.no_homes ∙ length-replicate (section_room h) 0 in
+    let b : y ≡ code_room h = sym (length-replicate y 0) ∙ ap length c.no_codes ∙ length-replicate (code_room h) 0 in
+    let d = at_most (few_records h) FEW_SECTIONS MAX_SECTIONS (omega arith) in
+    let e = at_most (few_records h) FEW_SYMBOLS MAX_SYMBOLS (omega arith) in
+    (rw a d, rw b e)
 
 pub few_is : (h : Header) {r : Bool} → r ≡ (leb h.sections FEW_SECTIONS && leb h.symbols FEW_SYMBOLS) → r ≡ few_records h
 unfolding few_records

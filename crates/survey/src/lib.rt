@@ -99,7 +99,6 @@ fn check_targets(t: Tally) -> Result<(), Refusal>
 }
 
 // With n extern names, whose slots are in the codes.
-#[tactic(auto, using(crate::proofs::Laws::targets_ways))]
 fn survey_targets(
     f: &[u8],
     h: Header,
@@ -177,7 +176,6 @@ pub fn few_records(h: Header) -> bool
 }
 
 // In arrays with room for so many sections and symbols.
-#[tactic(auto, using(crate::proofs::Laws::arrays))]
 fn survey_in<const SECTIONS: usize, const SYMBOLS: usize>(f: &[u8], h: Header) -> Result<Counts, Refusal>
     requires few_enough { h.sections ≤ MAX_SECTIONS }
     requires room { Cleared h (replicate SECTIONS 0) (replicate SYMBOLS 0) }
@@ -189,7 +187,6 @@ fn survey_in<const SECTIONS: usize, const SYMBOLS: usize>(f: &[u8], h: Header) -
 }
 
 // What follows refusals 1 to 7; of few records in small arrays.
-#[tactic(auto, using(crate::proofs::Laws::arrays))]
 fn survey_records(f: &[u8], h: Header) -> Result<Counts, Refusal>
     requires { h.sections ≤ MAX_SECTIONS }
     ensures { result ≡ behind_pages f.now h (answer_in f.now h (home_words f.now h) (code_words f.now h)) }

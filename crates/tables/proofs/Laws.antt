@@ -76,11 +76,11 @@ sections_long T R l b c i n o d = splice_long b c (SECTION_BYTES * n) R d ∙ st
 pub ruleset sections_loop = (sections_none, sections_more, sections_same, sections_end, sections_long)
 
 -- ---- externs
-pub extern_put : (f : List ℕ) (h : Header) (base undef : ℕ) (slots stops b c : List ℕ) (e k j ns nl s x n m : ℕ) (name : Option Name) → c ≡ splice b k (word_bytes (x ∷ n ∷ ns ∷ nl ∷ []))
-    → x ≡ (s + SLOT_SIZE * m) % 2 ^ 64 → s ≡ (base + undef) % 2 ^ 64 → m ≡ e → n ≡ j → j ≡ get_or slots e 0 → ns ≡ name_start name → nl ≡ name_length name → name ≡ symbol_name_by f h stops j → stops ≡ stops_of false f h
+pub extern_put : (f : List ℕ) (h : Header) (base undef : ℕ) (slots stops b c : List ℕ) (e k j ns nl x n m : ℕ) (name : Option Name) → c ≡ splice b k (word_bytes (x ∷ n ∷ ns ∷ nl ∷ []))
+    → x ≡ ((base + undef) % 2 ^ 64 + SLOT_SIZE * m) % 2 ^ 64 → m ≡ e → n ≡ j → j ≡ get_or slots e 0 → ns ≡ name_start name → nl ≡ name_length name → name ≡ symbol_name_by f h stops j → stops ≡ stops_of false f h
     → c ≡ splice b k (word_bytes (extern_words f h base undef slots e))
 unfolding extern_words
-extern_put f h base undef slots stops b c e k j ns nl s x n m name d0 hi lo me nj e1 e2 e3 q w =
+extern_put f h base undef slots stops b c e k j ns nl x n m name d0 hi me nj e1 e2 e3 q w =
     let d : c ≡ splice b k (word_bytes (x ∷ j ∷ ns ∷ nl ∷ [])) = rw nj at d0 in
     let e4 : name ≡ symbol_name f h j = q ∙ symbol_name_is f h stops w j in
     let z : x ≡ (base + undef + SLOT_SIZE * e) % 2 ^ 64 = omega arith in

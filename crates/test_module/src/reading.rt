@@ -1,6 +1,7 @@
 // Pointers of the image as it is laid, each read in the four ways.
 use crate::{BASE, boundary, say};
 use arch::{Arch, PAGE_SIZE, RVA, VA};
+use aspace::Absolute;
 
 // At the bounds of every section, UNDEF's too, and at the end of the mapped pages.
 pub fn all(image: &[u8], marks: &[u8], arch: Arch, table: &[u8], n: u16, pages: u16) {
@@ -28,9 +29,13 @@ fn range(image: &[u8], marks: &[u8], arch: Arch, start: u64, end: u64) {
 fn at(image: &[u8], marks: &[u8], arch: Arch, a: u64) {
     let o = a.wrapping_sub(BASE);
     cases::address(b"pointer ", a);
-    say::address(pointers::read_va_at_rva(image, marks, arch, RVA(o)));
-    say::offset(pointers::read_rva_at_rva(image, marks, arch, RVA(o)));
-    say::address(pointers::read_va_at_va(image, marks, VA(BASE), arch, VA(a)));
-    say::offset(pointers::read_rva_at_va(image, marks, VA(BASE), arch, VA(a)));
+    say::address(pointers::read_va(image, marks, arch, RVA(o)));
+    say::offset(pointers::read_rva(image, marks, arch, RVA(o)));
+    let there = Absolute {
+        base: VA(BASE),
+        address: VA(a),
+    };
+    say::address(pointers::read_va(image, marks, arch, there));
+    say::offset(pointers::read_rva(image, marks, arch, there));
     say::end();
 }
