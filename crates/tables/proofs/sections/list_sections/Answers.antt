@@ -8,7 +8,7 @@ loop-i-init c = sections_none _ _ _ _ _
 
 pub loop-i-preserved : goal.loop-i-preserved
 loop-i-preserved c = elim c.if-is_loaded.branch [
-  then-is_loaded w ↦ rw (w.b-is, w.n-is) (sections_more _ _ _ _ _ _ _ _ _ _ c.loop-i.invariant c.is_loaded.ensures w.if-is_loaded.true w.put_section.ensures)
+  | then-is_loaded w ↦ rw (w.b-is, w.n-is) (sections_more _ _ _ _ _ _ _ _ _ _ c.loop-i.invariant c.is_loaded.ensures w.if-is_loaded.true w.put_section.ensures)
   | else-is_loaded w ↦ rw (w.b-is, w.n-is) (sections_same _ _ _ _ _ _ _ _ _ c.loop-i.invariant c.is_loaded.ensures w.if-is_loaded.false)
 ]
 
