@@ -11,8 +11,8 @@ returns-then-c-l-3 c =
     [ then-c-l-2 v ↦
       elim c.if-c-l.branch
       [ then-c-l w ↦ rw (lists_are c.args.c c.args.l, le-leb _ _ w.if-c-l.true, sym w.value-is ∙ v.if-c-l-2.true, sym v.value-is ∙ c.if-c-l-3.true)
-      | else-c-l w ↦ not_both _ v.if-c-l-2.true w.value-is ]
-    | else-c-l-2 v ↦ not_both _ c.if-c-l-3.true v.value-is ]
+      | else-c-l w ↦ not_both _ v.if-c-l-2.true (w.value-is ∙ lt-leb _ _ w.if-c-l.false) ]
+    | else-c-l-2 v ↦ not_both _ c.if-c-l-3.true (v.value-is ∙ v.if-c-l-2.false) ]
 
 pub returns-else-c-l-3 : goal.returns-else-c-l-3
 returns-else-c-l-3 c =
@@ -20,7 +20,7 @@ returns-else-c-l-3 c =
     [ then-c-l-2 v ↦
       elim c.if-c-l.branch
       [ then-c-l w ↦ rw (lists_are c.args.c c.args.l, le-leb _ _ w.if-c-l.true, sym w.value-is ∙ v.if-c-l-2.true, sym v.value-is ∙ c.if-c-l-3.false) c.if-c-l-3.false
-      | else-c-l w ↦ not_both _ v.if-c-l-2.true w.value-is ]
+      | else-c-l w ↦ not_both _ v.if-c-l-2.true (w.value-is ∙ lt-leb _ _ w.if-c-l.false) ]
     | else-c-l-2 v ↦
       elim c.if-c-l.branch
       [ then-c-l w ↦ rw (lists_are c.args.c c.args.l, le-leb _ _ w.if-c-l.true, sym w.value-is ∙ v.if-c-l-2.false) c.if-c-l-3.false
