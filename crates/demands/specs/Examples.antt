@@ -70,7 +70,7 @@ load_says f base s = load_answer (first_failed (load_checks f (header_of f) base
 
 -- and these contents
 abbrev pub left_by : List ℕ → ℕ → Storage → Storage
-left_by f base s = pick (eqb (first_failed (load_checks f (header_of f) base s)) 0) (stored f (header_of f) base s) s
+left_by f base s = unless_refused (first_failed (load_checks f (header_of f) base s)) (stored f (header_of f) base s) s
 
 pub loads_exists : (f : List ℕ) (base : ℕ) (s : Storage) → Loads f base s (left_by f base s) (load_says f base s)
 loads_exists f base s = record { says = refl; leaves = refl }

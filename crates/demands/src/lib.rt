@@ -19,6 +19,7 @@ const POSITION_AT: usize = 8;
 
 const ANSWER_BYTES: usize = 24;
 
+#[tactic(auto, using(crate::proofs::Laws::answering))]
 fn write_answer(answer: Result<Progress, Refusal>, answers: &mut [u8], at: usize)
     ensures { answers.new ≡ splice answers.old at (word_bytes (answer_words answer)) }
 {

@@ -77,7 +77,7 @@ unfolding verdict_by pick
 lines_by_lem (Err n) c e = absurd (let w : ◌≡◌ {A = ℕ} 0 1 = cc in omega arith)
 lines_by_lem (Ok d) c e = by_fit (fits d) refl e
   where
-    by_fit : (b : Bool) → fits d ≡ b → pick b (Lines d) TooLarge ≡ Lines c → (Ok d ≡ Ok c) × (fits c ≡ true)
+    by_fit : (b : Bool) → fits d ≡ b → pick b (Lines d) TooLarge ≡ Lines c → ◌≡◌ {A = Result Counts Refusal} (Ok d) (Ok c) × (fits c ≡ true)
     by_fit true q x = let z : d ≡ c = cc in (ap Ok z, rw z at q)
     by_fit false q x = absurd (let w : ◌≡◌ {A = ℕ} 0 1 = cc in omega arith)
 
