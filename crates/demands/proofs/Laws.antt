@@ -6,7 +6,8 @@ use mathlib.Core.List.{List, [], ◌∷◌}
 use Prim.Native.Nat.{ℕ, zero, suc, ◌+◌, ◌*◌, ◌/◌, ◌≤◌, ◌<◌, min}
 use native.Mathlib.Omega.{arith}
 use lib.ListN.{length}
-use Rattle.util.specs.Pick.{pick}
+use mir.Val.{bool_byte}
+use Rattle.util.specs.Pick.{flag_is}
 use Rattle.le.specs.Le.{get, splice, splice_next, length_splice}
 use Rattle.words.specs.Words.{word_bytes}
 use Rattle.refusal.specs.Refusal.{Code, refusal_number, unless_refused}
@@ -17,16 +18,14 @@ use Rattle.demands.specs.Calls.{Call, patch, after_call, answer_to, after_calls,
 use Rattle.demands.specs.Running.{CALL_BYTES, POSITION_AT, ANSWER_BYTES, call_at, calls_to, calls_in, answer_words, answer_bytes, RunsCall, RunsTo, Runs, runs_are, after_one_more, answers_one_more, length_answers}
 
 -- ---- an answer
-pub answer_applied : (a : Result Progress Refusal) (p : Progress) (w at : ℕ) (l b : List ℕ) → a ≡ Ok p → w ≡ pick p.done 1 0 → b ≡ splice l at (word_bytes (0 ∷ p.position ∷ w ∷ []))
+pub answer_applied : (a : Result Progress Refusal) (p : Progress) (w at : ℕ) (l b : List ℕ) → a ≡ Ok p → w ≡ bool_byte p.done → b ≡ splice l at (word_bytes (0 ∷ p.position ∷ w ∷ []))
     → b ≡ splice l at (word_bytes (answer_words a))
 unfolding answer_words
-answer_applied a p w at l b e q d = rw (e, ← q) d
+answer_applied a p w at l b e q d = rw (e, ← flag_is p.done, ← q) d
 
 pub answer_refused : (a : Result Progress Refusal) (r : Refusal) (n at : ℕ) (l b : List ℕ) → a ≡ Err r → n ≡ refusal_number r → b ≡ splice l at (word_bytes (n ∷ 0 ∷ 0 ∷ [])) → b ≡ splice l at (word_bytes (answer_words a))
 unfolding answer_words
 answer_refused a r n at l b e q d = rw (e, ← q) d
-
-pub ruleset answering = (answer_applied, answer_refused)
 
 -- ---- a call
 pub call_is : (base : ℕ) (marks fixes words : List ℕ) (k number position : ℕ) (image image' answers answers' : List ℕ) (r : Result Progress Refusal)

@@ -1,8 +1,7 @@
 // The request's demands: theorems over the definitions that the contracts use (specs/), and a function that runs a list of calls under them.
 #![tactic(auto)]
 
-ghost use Rattle.std.specs.Prelude.{◌≡◌, ◌*◌, ◌+◌, ◌≤◌, min, length};
-ghost use Rattle.util.specs.Pick.{pick};
+ghost use Rattle.std.specs.Prelude.{◌≡◌, ◌*◌, ◌+◌, ◌≤◌, length};
 ghost use Rattle.le.specs.Le.{splice};
 ghost use Rattle.words.specs.Words.{word_bytes};
 ghost use Rattle.demands.specs.Running.{ANSWER_BYTES, call_at, calls_in, answer_words, RunsCall, Runs};
@@ -19,7 +18,6 @@ const POSITION_AT: usize = 8;
 
 const ANSWER_BYTES: usize = 24;
 
-#[tactic(auto, using(crate::proofs::Laws::answering))]
 fn write_answer(answer: Result<Progress, Refusal>, answers: &mut [u8], at: usize)
     ensures { answers.new ≡ splice answers.old at (word_bytes (answer_words answer)) }
 {

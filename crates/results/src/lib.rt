@@ -2,7 +2,6 @@
 #![tactic(auto)]
 
 ghost use Rattle.std.specs.Prelude.{◌≡◌};
-ghost use Rattle.util.specs.Pick.{pick};
 ghost use Rattle.le.specs.Le.{splice};
 ghost use Rattle.words.specs.Words.{word_bytes};
 ghost use Rattle.results.specs.Results.{counts_words, progress_words, routine_words};
@@ -29,6 +28,7 @@ pub fn write_counts(c: Counts, b: &mut [u8])
 }
 
 // Where a portion ended, and whether the list did: two words.
+#[tactic(auto, using(crate::proofs::Laws::progress_put))]
 pub fn write_progress(position: u64, done: bool, b: &mut [u8])
     ensures { b.new ≡ splice b.old 0 (word_bytes (progress_words position done)) }
 {

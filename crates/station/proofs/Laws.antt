@@ -43,8 +43,6 @@ pub counts_refused : (a : Result Counts Refusal) (r : Refusal) (out : List ℕ) 
 unfolding survey_code counts_in
 counts_refused a r out e = rw e (record { says = refl; result = refl })
 
-pub ruleset counting = (counts_accepted, counts_short, counts_refused)
-
 pub untold_accepted : (f : List ℕ) (a : Result Counts Refusal) (c : Counts) → a ≡ survey_of f → a ≡ Ok c → STORAGE ≡ unstored_code f
 unfolding untold
 untold_accepted f a c q e = rw (← q, e)
@@ -52,8 +50,6 @@ untold_accepted f a c q e = rw (← q, e)
 pub untold_refused : (f : List ℕ) (a : Result Counts Refusal) (r : Refusal) → a ≡ survey_of f → a ≡ Err r → Err r ≡ unstored_code f
 unfolding untold
 untold_refused f a r q e = rw (← q, e)
-
-pub ruleset withholding = (untold_accepted, untold_refused)
 
 module _ (f : List ℕ) (base : ℕ) (r : Code) {ok : Bool} where
   pub unlaid_base : ok ≡ base_ok base → ok ≡ false → BASE ≡ unlaid_code f base
@@ -63,8 +59,6 @@ module _ (f : List ℕ) (base : ℕ) (r : Code) {ok : Bool} where
   pub unlaid_file : ok ≡ base_ok base → ok ≡ true → r ≡ unstored_code f → r ≡ unlaid_code f base
   unfolding pick
   unlaid_file q e d = rw (← q, e) d
-
-pub ruleset unlaid = (unlaid_base, unlaid_file)
 
 module _ (fixes : List ℕ) (position n : ℕ) where
   pub untold_position : n ≡ fix_count fixes → leb position n ≡ false → POSITION ≡ untold_patch_code fixes position
@@ -85,8 +79,6 @@ progress_applied a p out out' e d = rw e (record { says = refl; result = d })
 pub progress_refused : (a : Result Progress Refusal) (r : Refusal) (out : List ℕ) → a ≡ Err r → ProgressTold a out out (Err r)
 unfolding progress_in
 progress_refused a r out e = rw e (record { says = refl; result = refl })
-
-pub ruleset progressing = (progress_applied, progress_refused)
 
 -- ---- the code of an answer that a code gives is that code
 pick_kept : {A : Type 0} (b : Bool) (new old : A) → pick b new old ≡ unless_refused (pick b PASSES STORAGE) new old
@@ -144,7 +136,7 @@ both_by {A} {B} code code' e new old x new₂ old₂ x₂ r q t =
 
 -- ---- the four operations
 pub survey_told : (f out out' : List ℕ) (a : Result Counts Refusal) (r : Code) (n : ℕ) → a ≡ survey_of f → CountsTold a out out' r → n ≡ code_number r → Surveyed f out out' n
-survey_told f out out' a r n q t m = rw (← m)
+survey_told f out out' a r n q t m = rw m
     (counts_by_lem (first_failed (checks f (header_of f))) (counts f (header_of f)) a out out' r q t)
 
 module _ (f : List ℕ) (base : ℕ) (s : Storage) (out : List ℕ) where
@@ -180,12 +172,12 @@ module _ (base : ℕ) (marks fixes : List ℕ) (number position : ℕ) (image ou
 
   pub patch_told : (image' out' : List ℕ) (a : Result Progress Refusal) (r : Code) (n : ℕ) → leb PROGRESS_BYTES (length out) ≡ true
       → Patches base marks fixes number position image image' a → ProgressTold a out out' r → n ≡ code_number r → Patched base marks fixes number position image image' out out' n
-  patch_told image' out' a r n e q t m = rw (← m)
+  patch_told image' out' a r n e q t m = rw m
       (let same : own ≡ patch_code_with (length image) marks base fixes number position out = sym (patch_room (length image) marks base fixes number position out e) in
       both_by own _ same _ image image' _ out out' _ q.leaves (progress_by own _ a out out' r q.says t))
 
   pub patch_untold : (k : Code) (n : ℕ) → leb PROGRESS_BYTES (length out) ≡ false → k ≡ untold_patch_code fixes position → n ≡ code_number k → Patched base marks fixes number position image image out out n
-  patch_untold k n e q m = rw (← m)
+  patch_untold k n e q m = rw m
       (let same : untold_patch_code fixes position ≡ patch_code_with (length image) marks base fixes number position out = sym (patch_short (length image) marks base fixes number position out e) in
       both_by (untold_patch_code fixes position) _ same _ image image _ out out _ (untold_kept fixes position _ image) (record { says = ap code_number q; leaves = untold_kept fixes position _ out }))
 
@@ -205,8 +197,6 @@ pub routine_refused : (a : Result Routine Refusal) (k : Refusal) (out : List ℕ
 unfolding nearest_words
 routine_refused a k out e = rw e (record { says = refl; result = sym (none_told out) })
 
-pub ruleset tracing = (routine_found, routine_refused)
-
 routine_by : (a : Result Routine Refusal) (out out' : List ℕ) (r : Code) → RoutineTold a out out' r → Told (routine_code a) (told_in out (nearest_words a)) out out' (code_number r)
 unfolding nearest_words unless_refused
 routine_by (Ok p) out out' r t = record { says = ap code_number t.says; leaves = t.result }
@@ -222,8 +212,4 @@ module _ (sections symbols : List ℕ) (address : ℕ) (out : List ℕ) where
   unfolding pick unless_refused
   routine_untold e = rw e (record { says = refl; leaves = refl })
 
-pub ruleset loads_told = (load_told, load_short)
 
-pub ruleset patches_told = (patch_told, patch_untold)
-
-pub ruleset routines_told = (routine_told, routine_untold)

@@ -28,6 +28,7 @@ short_kept n out (Err r) new old e = refl
 
 -- only where nothing is refused the number is 0
 pub zero_passes : (k : Code) → code_number k ≡ 0 → k ≡ PASSES
+unfolding code_numbered
 zero_passes k e = sym (code_back k) ∙ ap code_numbered e
 
 -- done means that the operation is, and that there was room

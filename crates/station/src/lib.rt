@@ -45,7 +45,6 @@ fn code<T: Copy>(answer: Result<T, Refusal>) -> u64
     }
 }
 
-#[tactic(auto, using(crate::proofs::Laws::counting))]
 fn tell_counts(answer: Result<Counts, Refusal>, out: &mut [u8]) -> Result<(), Refusal>
     ensures { CountsTold answer out.old out.new result }
 {
@@ -57,7 +56,6 @@ fn tell_counts(answer: Result<Counts, Refusal>, out: &mut [u8]) -> Result<(), Re
     Ok(())
 }
 
-#[tactic(auto, using(crate::proofs::Laws::progressing))]
 fn tell_progress(answer: Result<Progress, Refusal>, out: &mut [u8]) -> Result<(), Refusal>
     ensures { ProgressTold answer out.old out.new result }
 {
@@ -66,7 +64,6 @@ fn tell_progress(answer: Result<Progress, Refusal>, out: &mut [u8]) -> Result<()
     Ok(())
 }
 
-#[tactic(auto, using(crate::proofs::Laws::tracing))]
 fn tell_routine(answer: Result<Routine, Refusal>, out: &mut [u8]) -> Result<(), Refusal>
     ensures { RoutineTold answer out.old out.new result }
 {
@@ -76,7 +73,6 @@ fn tell_routine(answer: Result<Routine, Refusal>, out: &mut [u8]) -> Result<(), 
 }
 
 // The counts of a file: 80 bytes.
-#[tactic(auto, using(crate::proofs::Laws::survey_told))]
 pub fn nelgrauf_survey(file: &[u8], counts: &mut [u8]) -> u64
     ensures { Surveyed file.now counts.old counts.new result }
 {
@@ -84,7 +80,6 @@ pub fn nelgrauf_survey(file: &[u8], counts: &mut [u8]) -> u64
 }
 
 // What load is refused by behind its base where its counts have no room: 1 to 11, then 13.
-#[tactic(auto, using(crate::proofs::Laws::withholding))]
 fn unstored(file: &[u8]) -> Result<(), Refusal>
     ensures { result ≡ unstored_code file.now }
 {
@@ -93,14 +88,14 @@ fn unstored(file: &[u8]) -> Result<(), Refusal>
 }
 
 // The same from its base on: 12, 1 to 11, then 13.
-#[tactic(auto, using(crate::proofs::Laws::unlaid))]
 fn unlaid(file: &[u8], base: VA) -> Result<(), Refusal>
     ensures { result ≡ unlaid_code file.now base.0 }
 {
-    if !checks::base_ok(base) {
-        return Err(Refusal::Base);
+    if checks::base_ok(base) {
+        unstored(file)
+    } else {
+        Err(Refusal::Base)
     }
-    unstored(file)
 }
 
 // What patch is refused by where its progress has no room: 14, then 13.
@@ -116,7 +111,6 @@ fn unpatched(fixups: &[u8], position: u64) -> Result<(), Refusal>
 }
 
 // Tables, marks and image of a file at a base, and its counts.
-#[tactic(auto, using(crate::proofs::Laws::loads_told))]
 pub fn nelgrauf_load(
     file: &[u8],
     base: u64,
@@ -153,7 +147,6 @@ pub fn nelgrauf_load(
 }
 
 // `number` fixups of the list from `position` on, or all that are left; where that ended and whether the list did: 16 bytes.
-#[tactic(auto, using(crate::proofs::Laws::patches_told))]
 pub fn nelgrauf_patch(
     base: u64,
     image: &mut [u8],
@@ -184,7 +177,6 @@ pub fn nelgrauf_read(base: u64, image: &[u8], marks: &[u8], address: u64, out: &
 }
 
 // The listed symbol that an address belongs to, by the two tables as load wrote them: 16 bytes.
-#[tactic(auto, using(crate::proofs::Laws::routines_told))]
 pub fn nelgrauf_routine(sections: &[u8], symbols: &[u8], address: u64, nearest: &mut [u8]) -> u64
     ensures { Traced sections.now symbols.now address nearest.old nearest.new result }
 {

@@ -1,5 +1,6 @@
 -- One of two by a test: the `if` of every definition. Below it the laws of tests, in the forms that the code's branches leave.
 use Rattle.std.specs.Prelude.{◌≡◌, ℕ, ◌+◌, ◌-◌, ◌<◌, ◌≤◌, Bool, true, false, not, ◌&&◌, ◌||◌, ◌⊎◌, ◌==◌, ◌≢◌, nat_le, nat_lt, refl}
+use mir.Val.{bool_byte}
 use Rattle.std.proofs.Common.{sym, inl, inr, ⊎_elim, arith, leb-true, leb-false, ltb-true, lt-ltb, le-ltb, le-leb, eq-eqb, ne_eqb}
 use Rattle.std.proofs.Math.Bool.{and-false, or-true}
 use Rattle.std.proofs.lemmas.Bool.{lt-leb, not-true, not-false}
@@ -8,6 +9,12 @@ use Rattle.std.proofs.lemmas.Bool.{lt-leb, not-true, not-false}
 unfoldable pub pick : {A : Type 0} → Bool → A → A → A
 pick true a b = a
 pick false a b = b
+
+-- a flag as the number that the library makes of it
+pub flag_is : (b : Bool) → bool_byte b ≡ pick b 1 0
+unfolding pick
+flag_is true = refl
+flag_is false = refl
 
 -- ---- by cases
 pub yes_no : (b : Bool) → (b ≡ true) ⊎ (b ≡ false)
