@@ -51,14 +51,14 @@ pub untold_refused : (f : List ℕ) (a : Result Counts Refusal) (r : Refusal) �
 unfolding untold
 untold_refused f a r q e = rw (← q, e)
 
-module _ (f : List ℕ) (base : ℕ) (r : Code) {ok : Bool} where
+module _ (f : List ℕ) (base : ℕ) {ok : Bool} where
   pub unlaid_base : ok ≡ base_ok base → ok ≡ false → BASE ≡ unlaid_code f base
   unfolding pick
   unlaid_base q e = rw (← q, e)
 
-  pub unlaid_file : ok ≡ base_ok base → ok ≡ true → r ≡ unstored_code f → r ≡ unlaid_code f base
+  pub unlaid_file : (r : Code) → ok ≡ base_ok base → ok ≡ true → r ≡ unstored_code f → r ≡ unlaid_code f base
   unfolding pick
-  unlaid_file q e d = rw (← q, e) d
+  unlaid_file r q e d = rw (← q, e) d
 
 module _ (fixes : List ℕ) (position n : ℕ) where
   pub untold_position : n ≡ fix_count fixes → leb position n ≡ false → POSITION ≡ untold_patch_code fixes position

@@ -5,4 +5,4 @@ pub returns-then-base_ok : goal.returns-then-base_ok
 returns-then-base_ok c = unlaid_file _ _ _ c.base_ok.ensures c.if-base_ok.true c.unstored.ensures
 
 pub returns-else-base_ok : goal.returns-else-base_ok
-returns-else-base_ok c = unlaid_base _ _ _ c.base_ok.ensures c.if-base_ok.false
+returns-else-base_ok c = unlaid_base _ _ c.base_ok.ensures c.if-base_ok.false
