@@ -17,4 +17,3 @@ module _ (f : List ℕ) (h : Header) (r : Bool) (is : h ≡ header_of f) (e : r 
 
   pub many_arrays : r ≡ false → Cleared (header_of f) (replicate MAX_SECTIONS 0) (replicate MAX_SYMBOLS 0)
   many_arrays t = many_cleared (header_of f) (rw is at (sym e ∙ t))
-

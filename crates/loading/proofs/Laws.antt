@@ -77,4 +77,3 @@ module _ (f homes₀ codes₀ : List ℕ) (base : ℕ) (s : Storage) (homes code
       let t = told f h homes codes slots base (lengths_of s) p (plans zeros) c n is in
       let e : after ≡ stored f h base s = wrote (known_is f h homes codes slots base (lengths_of s) p (plans zeros) c n is) in
       record { says = rw t.0 (ap Ok t.1); leaves = rw t.0 e }
-

@@ -43,7 +43,8 @@ pub fn load_with(
     let mut slots = [0u32; limits::EXTERN_ROOM];
     let (counts, names) = plan::plan_file(f, base, l, homes, codes, &mut slots)?;
     storage::write_all(
-        f, base, homes, codes, &slots, names, image, marks, sections, symbols, externs, fixups, skips,
+        f, base, homes, codes, &slots, names, image, marks, sections, symbols, externs, fixups,
+        skips,
     );
     Ok(counts)
 }

@@ -56,11 +56,7 @@ fn room_ok(c: Counts, l: Lengths) -> bool
 
 // 13 behind survey's refusals.
 #[tactic(auto, using(crate::proofs::Laws::room_ways))]
-fn with_room(
-    s: Result<Counts, Refusal>,
-    l: Lengths,
-    n: usize,
-) -> Result<(Counts, usize), Refusal>
+fn with_room(s: Result<Counts, Refusal>, l: Lengths, n: usize) -> Result<(Counts, usize), Refusal>
     ensures { result ≡ with_room s l n }
 {
     let c = s?;

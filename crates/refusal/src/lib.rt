@@ -85,4 +85,3 @@ impl Refusal {
         self as u64
     }
 }
-

@@ -211,5 +211,3 @@ module _ (sections symbols : List ℕ) (address : ℕ) (out : List ℕ) where
   pub routine_untold : leb ROUTINE_BYTES (length out) ≡ false → Traced sections symbols address out out 13
   unfolding pick unless_refused
   routine_untold e = rw e (record { says = refl; leaves = refl })
-
-

@@ -181,10 +181,7 @@ pub fn nelgrauf_routine(sections: &[u8], symbols: &[u8], address: u64, nearest: 
     ensures { Traced sections.now symbols.now address nearest.old nearest.new result }
 {
     if ROUTINE_BYTES <= nearest.len() {
-        code(tell_routine(
-            module::routine_in(sections, symbols, VA(address)),
-            nearest,
-        ))
+        code(tell_routine(module::routine_in(sections, symbols, VA(address)), nearest))
     } else {
         code::<()>(Err(Refusal::Storage))
     }

@@ -150,12 +150,7 @@ fn survey_externs(
 }
 
 // Refusal 8, by where the sections end; and what follows. Each section's home, and what each symbol record comes to, is found once.
-fn survey_with(
-    f: &[u8],
-    h: Header,
-    homes: &mut [u32],
-    codes: &mut [u16],
-) -> Result<Counts, Refusal>
+fn survey_with(f: &[u8], h: Header, homes: &mut [u32], codes: &mut [u16]) -> Result<Counts, Refusal>
     requires { (h.sections ≤ MAX_SECTIONS) × Cleared h homes.old codes.old }
     ensures { result ≡ behind_pages f.now h (answer_in f.now h (home_words f.now h) (code_words f.now h)) }
 {
@@ -176,7 +171,10 @@ pub fn few_records(h: Header) -> bool
 }
 
 // In arrays with room for so many sections and symbols.
-fn survey_in<const SECTIONS: usize, const SYMBOLS: usize>(f: &[u8], h: Header) -> Result<Counts, Refusal>
+fn survey_in<const SECTIONS: usize, const SYMBOLS: usize>(
+    f: &[u8],
+    h: Header,
+) -> Result<Counts, Refusal>
     requires few_enough { h.sections ≤ MAX_SECTIONS }
     requires room { Cleared h (replicate SECTIONS 0) (replicate SYMBOLS 0) }
     ensures { result ≡ behind_pages f.now h (answer_in f.now h (home_words f.now h) (code_words f.now h)) }

@@ -171,19 +171,14 @@ fn routine(line: &[u8], c: Counts, sections: &[u8], symbols: &[u8]) {
 // `read ADDRESS LENGTH`; no read of the input is longer than the buffer.
 fn read(line: &[u8], base: u64, image: &[u8], marks: &[u8]) {
     let mut buffer = [0u8; 65536];
-    let n = buffer.len().min(cases::number_at(line, 2) as usize);
-    into(
-        base,
-        cases::number_at(line, 1),
-        image,
-        marks,
-        &mut buffer[..n],
-    );
+    into(line, base, image, marks, &mut buffer);
 }
 
-fn into(base: u64, address: u64, image: &[u8], marks: &[u8], buffer: &mut [u8]) {
-    match aspace::absolute::read_into(image, marks, VA(base), VA(address), buffer) {
+fn into(line: &[u8], base: u64, image: &[u8], marks: &[u8], buffer: &mut [u8]) {
+    let address = VA(cases::number_at(line, 1));
+    let n = buffer.len().min(cases::number_at(line, 2) as usize);
+    match aspace::absolute::read_into(image, marks, VA(base), address, &mut buffer[..n]) {
         Err(r) => cases::refused(r),
-        Ok(()) => say::crc(buffer),
+        Ok(()) => say::crc(&buffer[..n]),
     }
 }

@@ -8,8 +8,8 @@ overflow_sub-best c = walk_low _ _ _ c.loop-k.invariant c.word-top.ensures c.com
 pub loop-k-preserved : goal.loop-k-preserved
 loop-k-preserved c =
     elim c.if-comes_next.branch [
-      then-comes_next w ↦ rw (w.best-is, w.top-is) (walk_takes _ _ _ c.loop-k.invariant w.word-top.ensures c.comes_next.ensures w.if-comes_next.true)
-    | else-comes_next w ↦ rw (w.best-is, w.top-is) (walk_passes _ _ _ c.loop-k.invariant c.comes_next.ensures w.if-comes_next.false)
+      | then-comes_next w ↦ rw (w.best-is, w.top-is) (walk_takes _ _ _ c.loop-k.invariant w.word-top.ensures c.comes_next.ensures w.if-comes_next.true)
+      | else-comes_next w ↦ rw (w.best-is, w.top-is) (walk_passes _ _ _ c.loop-k.invariant c.comes_next.ensures w.if-comes_next.false)
     ]
 
 pub returns : goal.returns

@@ -11,7 +11,7 @@ pub loop-j-preserved : goal.loop-j-preserved
 loop-j-preserved c = record {
   left = search (rules, left_past);
   written = elim c.if-is_listed.branch [
-    then-is_listed w ↦ rw (w.b-is, w.n-is) (symbols_more _ _ _ _ _ _ _ _ _ _ _ _ _ c.loop-j.invariant.written c.is_listed.ensures c.loop-j.invariant.left c.read_symbol-s.ensures w.if-is_listed.true w.put_symbol.ensures)
+    | then-is_listed w ↦ rw (w.b-is, w.n-is) (symbols_more _ _ _ _ _ _ _ _ _ _ _ _ _ c.loop-j.invariant.written c.is_listed.ensures c.loop-j.invariant.left c.read_symbol-s.ensures w.if-is_listed.true w.put_symbol.ensures)
     | else-is_listed w ↦ rw (w.b-is, w.n-is) (symbols_same _ _ _ _ _ _ _ _ _ _ _ _ c.loop-j.invariant.written c.is_listed.ensures c.loop-j.invariant.left c.read_symbol-s.ensures w.if-is_listed.false)
   ];
 }
