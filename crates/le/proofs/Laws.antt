@@ -2,7 +2,7 @@
 use Rattle.std.specs.Prelude.{◌≡◌, List, [], ◌∷◌, ◌++◌, ℕ, zero, suc, ◌+◌, ◌-◌, ◌*◌, ◌/◌, ◌%◌, ◌^◌, ◌≤◌, ◌<◌, min, length, get_or, set, take, drop, replicate, refl}
 use Rattle.std.proofs.Common.{sym, ap, ◌∙◌, ⊎_elim, arith, zero-add, suc-add, pow-suc, length-drop, length-take, get_or-drop, subst}
 use Rattle.std.proofs.Math.Nat.{pow-zero, div-one, div-div-eq-div-mul}
-use Rattle.std.proofs.lemmas.List.{take_min, take_all, take-append-drop, take-replicate, length-take-le, length-replicate, drop_all}
+use Rattle.std.proofs.lemmas.List.{take_min, take_all, take-append-drop, take-replicate, length-take-le, length-replicate, drop_all, get_or_past}
 use Rattle.std.proofs.lemmas.List.Edits.{sets, sets-eq}
 use Rattle.std.proofs.Math.Seq.{paste}
 use Rattle.std.specs.Int.{byte_at, byte_worth, bytes_low_first, sum_through}
@@ -13,6 +13,22 @@ use denote.Param.Members.{Mut}
 use borrow.Rule.Slice.PartMut.{put_mid}
 use Rattle.util.specs.Pick.{le_or_lt}
 use Rattle.le.specs.Le.{get, le, part, splice, splice_past, splice_next, splice_long, length_le, length_splice, get_same, part_front}
+
+-- ---- past the end a list reads as 0, also where the place is no number of 64 bits
+pub get_past : (n : ℕ) (l : List ℕ) (at : ℕ) → length l ≤ at → get n l at ≡ 0
+unfolding get
+get_past zero l at h = refl
+get_past (suc n) l at h =
+    let a : get_or l at 0 ≡ 0 = get_or_past l at 0 h in
+    let r : get n l (suc at) ≡ 0 = get_past n l (suc at) (omega arith) in
+    omega arith
+
+pub get_capped : (n : ℕ) (l : List ℕ) (i at r : ℕ) → length l < 2 ^ 64 → at ≡ min i (2 ^ 64 - 1) → r ≡ get n l at → r ≡ get n l i
+get_capped n l i at r h e q =
+    ⊎_elim
+    (λ (k : i ≤ 2 ^ 64 - 1). let z : at ≡ i = omega arith in rw z at q)
+    (λ (k : 2 ^ 64 - 1 < i). q ∙ get_past n l at (omega arith) ∙ sym (get_past n l i (omega arith)))
+    (le_or_lt i (2 ^ 64 - 1))
 
 -- ---- parts
 pub front : (s : List ℕ) (n k : ℕ) → k ≡ min n (length s) → take k s ≡ take n s

@@ -10,25 +10,14 @@ use Rattle.std.proofs.lemmas.Nat.{and_mask}
 use Rattle.util.specs.Pick.{both_ways, and_left, and_right, and_both, yes_no, not_both, le_or_lt}
 use Rattle.util.specs.Prefix.{all_to, sum_to, all_at, all_of}
 use Rattle.le.specs.Le.{get, le, splice, splice_next}
+use Rattle.le.proofs.Laws.{get_capped}
 use Rattle.marks.specs.Marks.{WORD_PAGES, WORD_BYTES, word_at, marked, all_marked, pages_in, mark_word, mark_bytes}
 use Rattle.marks.specs.MarkLaws.{pages_at, pages_of_lem}
 use Rattle.marks.specs.PutLaws.{length_marks}
 
 -- ---- a word, where its place is a number of 64 bits, and past those
-get_past : (n : ℕ) (l : List ℕ) (at : ℕ) → length l ≤ at → get n l at ≡ 0
-unfolding get
-get_past zero l at h = refl
-get_past (suc n) l at h =
-    let a : get_or l at 0 ≡ 0 = get_or-eq_default l 0 {n = at} h in
-    let r : get n l (suc at) ≡ 0 = get_past n l (suc at) (omega arith) in
-    omega arith
-
 pub word_is : (m : List ℕ) (w at r : ℕ) → length m < 2 ^ 64 → at ≡ min (w * WORD_BYTES) (2 ^ 64 - 1) → r ≡ get WORD_BYTES m at → r ≡ word_at m w
-word_is m w at r h e q =
-    ⊎_elim
-    (λ (k : WORD_BYTES * w ≤ 2 ^ 64 - 1). let z : at ≡ WORD_BYTES * w = omega arith in rw z at q)
-    (λ (k : 2 ^ 64 - 1 < WORD_BYTES * w). q ∙ get_past WORD_BYTES m at (omega arith) ∙ sym (get_past WORD_BYTES m (WORD_BYTES * w) (omega arith)))
-    (le_or_lt (WORD_BYTES * w) (2 ^ 64 - 1))
+word_is m w at r h e q = get_capped WORD_BYTES m (WORD_BYTES * w) at r h (omega arith) q
 
 -- ---- one mark
 pub marked_is : (m : List ℕ) (p w : ℕ) → w ≡ get WORD_BYTES m (WORD_BYTES * (p / WORD_PAGES)) → eqb (w / 2 ^ (p % WORD_PAGES) % 2) 1 ≡ marked m p

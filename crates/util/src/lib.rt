@@ -1,5 +1,4 @@
-// Rounding up, from util.rs, and what every layer shares: two tests as one, a choice by a test, recursion over the numbers below n, the fold over
-// relocations.
+// Rounding up, from util.rs, and what every layer shares: a choice by a test, recursion over the numbers below n, the fold over relocations.
 #![tactic(auto)]
 
 ghost use Rattle.std.specs.Prelude.{◌≡◌, ◌+◌, ◌%◌, ◌^◌, max, ◌&&◌, ◌||◌, nat_le};
@@ -29,18 +28,4 @@ pub fn most(a: u64, b: u64) -> u64
     ensures { result ≡ max a b }
 {
     a.max(b)
-}
-
-// Both hold.
-pub fn both(a: bool, b: bool) -> bool
-    ensures { result ≡ (a && b) }
-{
-    a && b
-}
-
-// One of them holds.
-pub fn either(a: bool, b: bool) -> bool
-    ensures { result ≡ (a || b) }
-{
-    a || b
 }

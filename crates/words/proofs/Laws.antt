@@ -2,7 +2,7 @@
 use mathlib.Core.Path.{◌≡◌, refl, sym, ap, ◌∙◌}
 use mathlib.Core.List.{List, [], ◌∷◌, ◌++◌, append-nil}
 use mathlib.Core.Logic.{⊎_elim}
-use Prim.Native.Nat.{ℕ, suc, ◌+◌, ◌-◌, ◌*◌, ◌/◌, ◌≤◌, ◌<◌, min}
+use Prim.Native.Nat.{ℕ, suc, ◌+◌, ◌-◌, ◌*◌, ◌/◌, ◌^◌, ◌≤◌, ◌<◌, min}
 use native.Mathlib.Omega.{arith}
 use native.Mathlib.Numerals.{add-one}
 use lib.ListN.{get_or, length, take, drop, take-append-drop}
@@ -11,9 +11,9 @@ use Rattle.std.specs.Int.{bytes_low_first}
 use borrow.Rule.Slice.PartMut.{put_mid}
 use Rattle.limits.specs.Records.{WORD}
 use Rattle.util.specs.Pick.{le_or_lt}
-use Rattle.le.specs.Le.{le, splice, splice_next, splice_past, splice_long, length_splice}
-use Rattle.le.proofs.Laws.{number_set}
-use Rattle.words.specs.Words.{word_bytes, words_append, length_words}
+use Rattle.le.specs.Le.{get, le, splice, splice_next, splice_past, splice_long, length_splice}
+use Rattle.le.proofs.Laws.{number_set, get_capped}
+use Rattle.words.specs.Words.{word_of, word_bytes, words_append, length_words}
 
 module _ (ws : List ℕ) where
   one_more : (i : ℕ) → i < length ws → word_bytes (take (suc i) ws) ≡ word_bytes (take i ws) ++ le WORD (get_or ws i 0)
@@ -66,3 +66,12 @@ module _ (ws : List ℕ) where
 pub ruleset words_loop = (words_none, words_again)
 
 pub ruleset inside_loop = (words_none, inside_again, inside_end)
+
+-- ---- a word of a record, whose place may be no number of 64 bits
+capped : (p q a w at : ℕ) → q ≡ min p (2 ^ 64 - 1) → a ≡ min (q + w) (2 ^ 64 - 1) → at ≡ min (WORD * a) (2 ^ 64 - 1) → at ≡ min (WORD * (p + w)) (2 ^ 64 - 1)
+capped p q a w at x y z = omega arith
+
+pub word_is : (s : List ℕ) (W r w q a at x : ℕ) → length s < 2 ^ 64 → q ≡ min (W * r) (2 ^ 64 - 1) → a ≡ min (q + w) (2 ^ 64 - 1) → at ≡ min (WORD * a) (2 ^ 64 - 1) → x ≡ get WORD s at
+    → x ≡ word_of W s r w
+unfolding word_of
+word_is s W r w q a at x h e f g k = get_capped WORD s (WORD * (W * r + w)) at x h (capped (W * r) q a w at e f g) k

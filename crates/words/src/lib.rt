@@ -55,11 +55,13 @@ pub fn put(b: &mut [u8], at: usize, ws: &[u64])
     }
 }
 
-// Word w of record r, where a record has `width` words; 0 past the end.
-#[tactic(auto, unfolding(crate::specs::Words::word_of))]
+// Word w of record r, where a record has `width` words; 0 past the end, also where the place has no number of 64 bits.
+#[tactic(auto, using(crate::proofs::Laws::word_is))]
 pub fn word(table: &[u8], width: u8, r: usize, w: u8) -> u64
-    requires { WORD * (width * r + w) < 2 ^ 64 }
     ensures { result ≡ word_of width table.now r w }
 {
-    le::u64_at(table, WORD * (usize::from(width) * r + usize::from(w)))
+    let at = usize::from(width)
+        .saturating_mul(r)
+        .saturating_add(usize::from(w));
+    le::u64_at(table, WORD.saturating_mul(at))
 }
