@@ -48,7 +48,7 @@ externs_by f h puts = externs_to f h puts h.sections
 abbrev pub externs : List ℕ → Header → List ℕ
 externs f h = externs_by f h (Puts.puts f h)
 
--- how many names there are, or that there are too many (refusal 9)
+-- how many names there are; none where there are too many (refusal 9)
 abbrev pub names_of : List ℕ → Option ℕ
 names_of ys = pick (leb (length ys) MAX_EXTERNS) (Some (length ys)) None
 
@@ -56,7 +56,7 @@ names_of ys = pick (leb (length ys) MAX_EXTERNS) (Some (length ys)) None
 unfoldable pub slot_words : List ℕ → List ℕ
 slot_words ys = pick (leb (length ys) MAX_EXTERNS) (ys ++ replicate (EXTERN_ROOM - length ys) 0) (replicate EXTERN_ROOM 0)
 
--- the refusal of each case (01, "Survey"), 0 where there is none
+-- the refusal of each case (01, "Survey"); it passes where there is none
 abbrev pub names_refusal : Option ℕ → Code
 names_refusal None = EXTERNS
 names_refusal (Some n) = PASSES

@@ -9,7 +9,7 @@ use Rattle.kinds.specs.declared.Place.TheVariants.{In, Undefined, Common, Absolu
 use Rattle.rules.specs.declared.Rule.{Rule}
 use Rattle.rules.specs.declared.Rule.TheVariants.{Section, Extern, Slot, Name, Refused}
 
--- the refusal of each case (01, "Survey"), 0 where there is none
+-- the refusal of each case (01, "Survey"); it passes where there is none
 abbrev pub rule_refusal : Rule → Code
 rule_refusal (Section n) = PASSES
 rule_refusal Extern = PASSES

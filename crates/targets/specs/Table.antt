@@ -1,4 +1,4 @@
--- The targets by the codes that are kept of the symbols (crates `codes` and `externs`): each is what its symbol comes to (`targets-kept`).
+-- The targets by the codes that are kept of the symbols (crates `codes` and `externs`): each is what its symbol comes to (`target_kept`).
 use Rattle.arch.specs.declared.RVA.{RVA}
 use Rattle.std.specs.Prelude.{◌≡◌, Bool, List, ℕ, ◌+◌, ◌-◌, ◌*◌, ◌%◌, ◌≤◌, ◌<◌, eqb, leb, ltb, None, Option, Some}
 use Rattle.std.proofs.Math.Path.{refl, ap}

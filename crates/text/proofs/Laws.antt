@@ -61,7 +61,7 @@ pub digit_high : (d : ℕ) → 10 ≤ d → 87 + d ≡ glyph d
 unfolding glyph pick
 digit_high d h = rw (le-ltb d 10 h)
 
--- ---- the ways through `put_number`
+-- ---- the ways through `number`
 module _ (l : List ℕ) (at b n d : ℕ) (e : List ℕ) (q : ℕ) where
   pub put_last : n < b → d ≡ glyph (n % b) → Puts l at (d ∷ []) e q → Puts l at (number b n) e q
   put_last h g p = rw (number_last b n h, ← g) p
@@ -71,7 +71,7 @@ module _ (l : List ℕ) (at b n d : ℕ) (e : List ℕ) (q : ℕ) where
 
 pub ruleset number_ways = (put_last, put_next, same)
 
--- ---- the ways through `put_signed`
+-- ---- the ways through `signed`
 module _ (l : List ℕ) (at v : ℕ) (e : List ℕ) (q : ℕ) where
   pub signed_plus : v < 2 ^ 63 → Puts l at (decimal_text v) e q → Puts l at (signed_text v) e q
   unfolding signed_text pick
