@@ -11,7 +11,7 @@ use native.Mathlib.Omega.{arith}
 use Rattle.util.specs.Pick.{pick}
 use Rattle.arch.specs.declared.VA.{VA}
 use Rattle.limits.specs.Records.{SYMBOL_WORDS, EXTERN_WORDS}
-use Rattle.symbols.specs.Symbol.{count, symbol_count, symbol_record, extern_record, entry, symbol_entry, extern_entry, has_name, last_to, last_named, symbol_named, extern_named, first_from, lies_at, symbol_at}
+use Rattle.symbols.specs.Symbol.{count, symbol_count, extern_count, symbol_record, extern_record, entry, symbol_entry, extern_entry, has_name, last_to, last_named, symbol_named, extern_named, first_from, lies_at, symbol_at}
 
 -- ---- the last below n of which p holds
 module _ (c : Refusal) (p : ℕ → Bool) where
@@ -54,6 +54,13 @@ module _ (W n : ℕ) (file table name : List ℕ) where
   no_such_name o = last_none NoEntry (has_name W n file table name) n o
 
 -- ---- the questions to any table are those to the symbols and to the extern names
+module _ (table : List ℕ) where
+  pub count_of_symbols : count SYMBOL_WORDS table ≡ symbol_count table
+  count_of_symbols = refl
+
+  pub count_of_externs : count EXTERN_WORDS table ≡ extern_count table
+  count_of_externs = refl
+
 module _ (table : List ℕ) (k : ℕ) where
   pub entry_of_symbols : entry SYMBOL_WORDS symbol_record table k ≡ symbol_entry table k
   unfolding entry symbol_entry

@@ -47,13 +47,15 @@ impl<'a> Question<'a> {
         }
     }
 
-    // `write N AT BYTES`: these bytes, or 0x5A for each that is not there. `write_u16 VALUE AT` and the like; a signed value in two's complement.
+    // `write N AT BYTES`: these bytes, or 0x5A for each that is not there; with a base, 0x5A always. `write_u16 VALUE AT` and the like; a signed value in two's complement.
     fn write<P: Place>(self, at: P, image: &mut [u8], marks: &[u8]) -> Result<(), Refusal> {
         let n = cases::number_at(self.line, 2);
         match self.function {
             0 => {
                 let mut bytes = [0x5Au8; 4097];
-                cases::bytes_at(self.line, self.behind, &mut bytes);
+                if self.behind == self.at + 1 {
+                    cases::bytes_at(self.line, self.behind, &mut bytes);
+                }
                 write::write(image, marks, at, le::part(&bytes, 0, n as usize))
             }
             1 => write::write_number::<2, P>(image, marks, at, n),
@@ -62,7 +64,7 @@ impl<'a> Question<'a> {
         }
     }
 
-    // `read_into ROOM AT`, `read_bytes ROOM AT N`, `read_ascii MINIMUM AT`, `read_u8 AT` and the like.
+    // `read_into ROOM AT`, `read_bytes ROOM AT N`, `read_ascii MINIMUM AT`, `read_u8 AT` and the like; a word that is none of them is refused by 0.
     pub(crate) fn read<P: Place>(self, at: P, image: &[u8], marks: &[u8]) {
         match self.function {
             6 | 7 => self.read_buffer(at, image, marks),
@@ -70,7 +72,8 @@ impl<'a> Question<'a> {
                 image,
                 strings::read_ascii(image, marks, at, cases::number_at(self.line, 2)),
             ),
-            _ => cases::number(self.read_number(at, image, marks)),
+            9..=14 => cases::number(self.read_number(at, image, marks)),
+            _ => cases::text(b" refused 0"),
         }
     }
 
