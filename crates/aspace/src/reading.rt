@@ -52,11 +52,7 @@ pub fn read_into<P: Place>(image: &[u8], marks: &[u8], at: P, buf: &mut [u8]) ->
 }
 
 // The number of that width there.
-pub fn read_number<W: Width, P: Place>(
-    image: &[u8],
-    marks: &[u8],
-    at: P,
-) -> Result<u64, Refusal>
+pub fn read_number<W: Width, P: Place>(image: &[u8], marks: &[u8], at: P) -> Result<u64, Refusal>
     ensures { result ≡ read_number_there W.BYTES (P.reaches at W.BYTES) image.now marks.now (P.start at) }
 {
     Ok(le::u64_at(bytes(image, marks, at, W::BYTES)?, 0))
