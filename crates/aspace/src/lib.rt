@@ -5,6 +5,8 @@
 pub mod absolute;
 mod place;
 mod reading;
+mod width;
 
 pub use place::{Absolute, Place, Sliced};
 pub use reading::{find, read_bytes, read_into, read_number, read_pointer};
+pub use width::Width;

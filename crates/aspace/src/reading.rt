@@ -7,7 +7,7 @@ ghost use Rattle.le.specs.Le.{part, splice};
 ghost use Rattle.refusal.specs.Refusal.{PASSES, Leaves};
 ghost use Rattle.aspace.specs.Places.{span_there, read_code_there, read_number_there, bytes_code_there};
 
-use crate::Place;
+use crate::{Place, Width};
 use arch::{Arch, RVA};
 use refusal::Refusal;
 
@@ -51,16 +51,11 @@ pub fn read_into<P: Place>(image: &[u8], marks: &[u8], at: P, buf: &mut [u8]) ->
     Ok(())
 }
 
-// The number of N bytes there.
-pub fn read_number<const N: usize, P: Place>(
-    image: &[u8],
-    marks: &[u8],
-    at: P,
-) -> Result<u64, Refusal>
-    requires { N ≤ 8 }
-    ensures { result ≡ read_number_there N (P.reaches at N) image.now marks.now (P.start at) }
+// The number of that width there.
+pub fn read_number<W: Width, P: Place>(image: &[u8], marks: &[u8], at: P) -> Result<u64, Refusal>
+    ensures { result ≡ read_number_there W.BYTES (P.reaches at W.BYTES) image.now marks.now (P.start at) }
 {
-    Ok(le::u64_at(bytes(image, marks, at, N)?, 0))
+    Ok(le::u64_at(bytes(image, marks, at, W::BYTES)?, 0))
 }
 
 // A number of the machine's pointer size.
@@ -68,8 +63,8 @@ pub fn read_pointer<P: Place>(image: &[u8], marks: &[u8], arch: Arch, at: P) -> 
     ensures { result ≡ read_number_there (pointer_size arch) (P.reaches at (pointer_size arch)) image.now marks.now (P.start at) }
 {
     match arch {
-        Arch::X32 => read_number::<4, P>(image, marks, at),
-        Arch::X64 => read_number::<8, P>(image, marks, at),
+        Arch::X32 => read_number::<u32, _>(image, marks, at),
+        Arch::X64 => read_number::<u64, _>(image, marks, at),
     }
 }
 

@@ -18,18 +18,10 @@ fn main() {
     each(&text[..n], &mut file);
 }
 
-// An index: the end of a line says where the next begins.
 fn each(text: &[u8], file: &mut [u8]) {
     let mut n: usize = 0;
-    let mut at: usize = 0;
-    while at < text.len() {
-        let end = cases::line_end(text, at);
-        n = line(le::part(text, at, end - at), file, n);
-        if end < text.len() {
-            at = end + 1;
-        } else {
-            return;
-        }
+    for with_end in text.split_inclusive(|b| *b == b'\n') {
+        n = line(with_end.strip_suffix(b"\n").unwrap_or(with_end), file, n);
     }
 }
 

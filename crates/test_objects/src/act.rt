@@ -26,9 +26,12 @@ pub(crate) fn all(
     fixups: &[u8],
     skips: &[u8],
 ) {
-    let mut at = from;
-    while at < text.len() {
-        let line = cases::line(text, at);
+    for with_end in text
+        .get(from..)
+        .unwrap_or(&[])
+        .split_inclusive(|b| *b == b'\n')
+    {
+        let line = with_end.strip_suffix(b"\n").unwrap_or(with_end);
         let k = word(line);
         if k > LAST {
             return;
@@ -36,7 +39,6 @@ pub(crate) fn all(
         one(
             k, line, f, base, c, image, marks, sections, symbols, externs, fixups, skips,
         );
-        at += line.len() + 1;
     }
 }
 

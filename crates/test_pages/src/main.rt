@@ -25,19 +25,11 @@ fn main() {
 
 fn each(text: &[u8], image: &mut [u8], marks: &mut [u8], given: &mut [u8]) {
     let mut lent = Lent { image: 0, marks: 0 };
-    let mut at: usize = 0;
-    // An index: where a line ends says where the next one starts, and a newline at the end starts none.
-    while at < text.len() {
-        let end = cases::line_end(text, at);
-        let asked = le::part(text, at, end - at);
+    for with_end in text.split_inclusive(|b| *b == b'\n') {
+        let asked = with_end.strip_suffix(b"\n").unwrap_or(with_end);
         lent = prepared(asked, lent, given);
         line(asked, lent, image, marks, given);
         cases::end();
-        if end < text.len() {
-            at = end + 1;
-        } else {
-            return;
-        }
     }
 }
 

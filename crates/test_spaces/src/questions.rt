@@ -58,9 +58,9 @@ impl<'a> Question<'a> {
                 }
                 write::write(image, marks, at, le::part(&bytes, 0, n as usize))
             }
-            1 => write::write_number::<2, P>(image, marks, at, n),
-            2 | 4 => write::write_number::<4, P>(image, marks, at, n),
-            _ => write::write_number::<8, P>(image, marks, at, n),
+            1 => write::write_number::<u16, _>(image, marks, at, n),
+            2 | 4 => write::write_number::<u32, _>(image, marks, at, n),
+            _ => write::write_number::<u64, _>(image, marks, at, n),
         }
     }
 
@@ -93,10 +93,10 @@ impl<'a> Question<'a> {
 
     fn read_number<P: Place>(self, at: P, image: &[u8], marks: &[u8]) -> Result<u64, Refusal> {
         match self.function {
-            9 => aspace::read_number::<1, P>(image, marks, at),
-            10 => aspace::read_number::<2, P>(image, marks, at),
-            11 => aspace::read_number::<4, P>(image, marks, at),
-            12 => aspace::read_number::<8, P>(image, marks, at),
+            9 => aspace::read_number::<u8, _>(image, marks, at),
+            10 => aspace::read_number::<u16, _>(image, marks, at),
+            11 => aspace::read_number::<u32, _>(image, marks, at),
+            12 => aspace::read_number::<u64, _>(image, marks, at),
             13 => aspace::read_pointer(image, marks, Arch::X32, at),
             _ => aspace::read_pointer(image, marks, Arch::X64, at),
         }

@@ -7,7 +7,7 @@ ghost use Rattle.refusal.specs.Refusal.{PASSES, Leaves};
 ghost use Rattle.write.specs.Write.{write_code_there};
 
 use arch::RVA;
-use aspace::Place;
+use aspace::{Place, Width};
 use refusal::Refusal;
 
 // The most bytes that one write takes.
@@ -39,17 +39,17 @@ pub fn write<P: Place>(image: &mut [u8], marks: &[u8], at: P, v: &[u8]) -> Resul
     Ok(())
 }
 
-// A number of N bytes: the N low bytes of v. A signed number is in two's complement.
-pub fn write_number<const N: usize, P: Place>(
+// A number of that width: as many low bytes of v. A signed number is in two's complement.
+pub fn write_number<W: Width, P: Place>(
     image: &mut [u8],
     marks: &[u8],
     at: P,
     v: u64,
 ) -> Result<(), Refusal>
-    ensures { Leaves (write_code_there (P.reaches at N) (length image.old) marks.now (P.start at) N)
-        image.old (splice image.old (P.start at) (le N v)) image.new result }
+    ensures { Leaves (write_code_there (P.reaches at W.BYTES) (length image.old) marks.now (P.start at) W.BYTES)
+        image.old (splice image.old (P.start at) (le W.BYTES v)) image.new result }
 {
-    let offset = writable(image.len() as u64, marks, at, N as u64)?;
-    le::put(image, offset.0 as usize, N, v);
+    let offset = writable(image.len() as u64, marks, at, W::BYTES as u64)?;
+    le::put(image, offset.0 as usize, W::BYTES, v);
     Ok(())
 }

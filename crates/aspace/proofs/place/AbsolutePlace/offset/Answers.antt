@@ -1,4 +1,4 @@
-use Rattle.std.proofs.Common.{arith, ◌<◌, ◌≤◌, ◌+◌, ◌-◌, ◌^◌, max}
+use Rattle.std.proofs.Common.{arith, ◌<◌, ◌≤◌, ◌+◌, ◌^◌, max}
 use Rattle.aspace.proofs.Places.{offset_below, offset_above, offset_past, offset_in}
 use Rattle.util.specs.Pick.{pick_yes, pick_no}
 use Rattle.aspace.proofs.place.AbsolutePlace.offset.Goals as goal
