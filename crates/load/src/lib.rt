@@ -30,11 +30,7 @@ fn load_in<const SECTIONS: usize, const SYMBOLS: usize>(
 
 // Everything that survey counts, at a base, into lent storage; or a refusal, and no byte has changed.
 // The arrays are small where sections and symbols are few.
-pub fn load(
-    f: &[u8],
-    base: VA,
-    lent: &mut Lent,
-) -> Result<Counts, Refusal>
+pub fn load(f: &[u8], base: VA, lent: &mut Lent) -> Result<Counts, Refusal>
     ensures same { SameBuffers lent.old lent.new }
     ensures loads { Loads f.now base.0 (storage_of lent.old) (storage_of lent.new) result }
 {

@@ -96,6 +96,26 @@ pub fn write_all(
         lent.image,
         lent.marks,
     );
-    write_names(f, h, base, homes, start, count, names, lent.symbols, lent.externs);
-    lists::write_relocations(arch, f, h, homes, undef, codes, base, lent.fixups, lent.skips);
+    write_names(
+        f,
+        h,
+        base,
+        homes,
+        start,
+        count,
+        names,
+        lent.symbols,
+        lent.externs,
+    );
+    lists::write_relocations(
+        arch,
+        f,
+        h,
+        homes,
+        undef,
+        codes,
+        base,
+        lent.fixups,
+        lent.skips,
+    );
 }
