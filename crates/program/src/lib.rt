@@ -9,11 +9,12 @@ ghost use Rattle.verdict.specs.Verdict.{verdict_of};
 ghost use Rattle.program.specs.Output.{line_total};
 ghost use Rattle.program.specs.Within.{Within};
 ghost use Rattle.program.specs.Holding.{Ready, HoldsTables, Printed};
-ghost use Rattle.storage.specs.Storage.{storage};
+ghost use Rattle.storage.specs.Storage.{SameBuffers, storage_of};
 
 use arch::{PAGE_SIZE, VA};
 use listing::Tables;
 use refusal::Refusal;
+use storage::Lent;
 use survey::Counts;
 use text::Writer;
 use verdict::Verdict;
@@ -133,6 +134,7 @@ fn bytes(size: usize, n: u64, most: usize) -> usize
 }
 
 // Storage of its own, lent in just the counted sizes, so that each buffer is its table.
+#[tactic(auto, using(crate::proofs::Laws::same_part, crate::proofs::Laws::is_ready))]
 fn lend(f: &[u8], c: Counts) -> Written
     requires { Within f.now c }
     ensures { result.lines ≡ line_total f.now }
@@ -155,46 +157,34 @@ fn lend(f: &[u8], c: Counts) -> Written
     let externs_bytes = bytes(limits::EXTERN_BYTES, c.externs, EXTERNS_ROOM);
     let fixups_bytes = bytes(limits::FIXUP_BYTES, c.fixups, FIXUPS_ROOM);
     let skips_bytes = bytes(limits::SKIP_BYTES, c.skips, SKIPS_ROOM);
-    loaded(
-        f,
-        c,
-        &mut image_room[..image_bytes],
-        &mut marks_room[..marks_bytes],
-        &mut sections_room[..sections_bytes],
-        &mut symbols_room[..symbols_bytes],
-        &mut externs_room[..externs_bytes],
-        &mut fixups_room[..fixups_bytes],
-        &mut skips_room[..skips_bytes],
-    )
+    let mut lent = Lent {
+        image: &mut image_room[..image_bytes],
+        marks: &mut marks_room[..marks_bytes],
+        sections: &mut sections_room[..sections_bytes],
+        symbols: &mut symbols_room[..symbols_bytes],
+        externs: &mut externs_room[..externs_bytes],
+        fixups: &mut fixups_room[..fixups_bytes],
+        skips: &mut skips_room[..skips_bytes],
+    };
+    loaded(f, c, &mut lent)
 }
 
 // Patches before the first line is written.
-fn loaded(
-    f: &[u8],
-    c: Counts,
-    image: &mut [u8],
-    marks: &mut [u8],
-    sections: &mut [u8],
-    symbols: &mut [u8],
-    externs: &mut [u8],
-    fixups: &mut [u8],
-    skips: &mut [u8],
-) -> Written
-    requires { Ready f.now c (storage image.old marks.old sections.old symbols.old externs.old fixups.old skips.old) }
-    ensures { Printed f.now image.new result.lines }
+fn loaded(f: &[u8], c: Counts, lent: &mut Lent) -> Written
+    requires { Ready f.now c (storage_of lent.old) }
+    ensures same { SameBuffers lent.old lent.new }
+    ensures printed { Printed f.now lent.new.image.now result.lines }
 {
-    let _ = load::load(
-        f,
-        VA(BASE),
-        image,
-        marks,
-        sections,
-        symbols,
-        externs,
-        fixups,
-        skips,
-    );
+    let _ = load::load(f, VA(BASE), lent);
+    // A variable each: two fields behind `lent` can't be lent to one call as shared.
+    let image = &mut *lent.image;
+    let marks = &mut *lent.marks;
+    let fixups = &mut *lent.fixups;
     let _ = patch::patch(VA(BASE), image, marks, fixups, u64::MAX, 0);
+    let sections = &mut *lent.sections;
+    let symbols = &mut *lent.symbols;
+    let externs = &mut *lent.externs;
+    let skips = &mut *lent.skips;
     list(f, c, sections, symbols, externs, fixups, skips)
 }
 

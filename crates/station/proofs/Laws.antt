@@ -146,15 +146,15 @@ module _ (f : List ℕ) (base : ℕ) (s : Storage) (out : List ℕ) where
   abbrev new : Storage
   new = stored f (header_of f) base s
 
-  pub load_told : (s' : Storage) (out' : List ℕ) (a : Result Counts Refusal) (r : Code) (n : ℕ) → leb COUNTS_BYTES (length out) ≡ true → Loads f base s s' a → CountsTold a out out' r
-      → n ≡ code_number r → Loaded f base s s' out out' n
-  load_told s' out' a r n e q t m =
+  pub load_told : (s' s'' : Storage) (out' : List ℕ) (a : Result Counts Refusal) (r : Code) (n : ℕ) → leb COUNTS_BYTES (length out) ≡ true → Loads f base s s' a → CountsTold a out out' r
+      → n ≡ code_number r → s'' ≡ s' → Loaded f base s s'' out out' n
+  load_told s' s'' out' a r n e q t m b =
       let u : Told (code_with COUNTS_BYTES out code) (told_in out (counts_words (counts f (header_of f)))) out out' (code_number r) =
       counts_by_lem code (counts f (header_of f)) a out out' r q.says t
       in
       record {
         says = m ∙ u.says;
-        leaves = q.leaves ∙ ap (λ (k : Code). unless_refused k new s) (sym (room_same COUNTS_BYTES out code e));
+        leaves = b ∙ q.leaves ∙ ap (λ (k : Code). unless_refused k new s) (sym (room_same COUNTS_BYTES out code e));
         leaves₂ = u.leaves;
       }
 

@@ -24,6 +24,7 @@ use arch::VA;
 use nearest::Routine;
 use patch::Progress;
 use refusal::Refusal;
+use storage::Lent;
 use survey::Counts;
 
 // The ten words of survey's and load's counts.
@@ -129,9 +130,7 @@ pub fn nelgrauf_load(
         counts.old counts.new result }
 {
     if COUNTS_BYTES <= counts.len() {
-        let answer = load::load(
-            file,
-            VA(base),
+        let mut lent = Lent {
             image,
             marks,
             sections,
@@ -139,7 +138,8 @@ pub fn nelgrauf_load(
             externs,
             fixups,
             skips,
-        );
+        };
+        let answer = load::load(file, VA(base), &mut lent);
         code(tell_counts(answer, counts))
     } else {
         code(unlaid(file, VA(base)))

@@ -39,14 +39,14 @@ module _ (f : List ℕ) (h : Header) (base : ℕ) (home : ℕ → Option RVA) (r
 
 pub ruleset parts = (laid_is, listed_is)
 
-pub stored_is : (a : Arch) (f : List ℕ) (h : Header) (base : ℕ) (homes codes slots names : List ℕ) (start : RVA) (undef pages m n : ℕ) (i i' k k' s s' y y' e e' x x' z z' : List ℕ) → h ≡ header_of f
+pub stored_is : {a : Arch} {f : List ℕ} {h : Header} {base : ℕ} {homes codes names : List ℕ} {start : RVA} {undef pages n : ℕ} {i i' k k' s s' y y' e e' x x' z z' : List ℕ} (slots : List ℕ) (m : ℕ) → h ≡ header_of f
     → start ≡ rva (undef_start f h) → undef ≡ start.0 % 2 ^ 32 → pages ≡ pages_to start.0 % 2 ^ 32 → a ≡ arch_by (arch_of h.machine) → names ≡ part slots 0 m → n ≡ length names % 2 ^ 32
     → LayoutIs f h base (home_in homes) start.0 pages n s s' i i' k k' → NamesAre f h base (home_in homes) (record_in homes) start.0 n names y y' e e'
     → BothWritten (fix_table base (outcome a f h (home_in homes) (target_in homes undef codes)) (relocation_count f h) h.sections)
     (skip_table (outcome a f h (home_in homes) (target_in homes undef codes)) (relocation_count f h) h.sections) x x' z z'
     → Known f (header_of f) homes codes (part slots 0 m) → storage i' k' s' y' e' x' z' ≡ stored f (header_of f) base (storage i k s y e x z)
 unfolding stored_by
-stored_is a f h base homes codes slots names start undef pages m n i i' k k' s s' y y' e e' x x' z z' head begins last mapped machine named count l w b known =
+stored_is {f = f} {h = h} {homes = homes} {codes = codes} {names = names} {start = start} {undef = undef} {pages = pages} {n = n} slots m head begins last mapped machine named count l w b known =
     let lim : Known f h homes codes names = rw (head, named) known in
     let fits = undef_fits f h lim.pages in
     let room = lim.pages in
@@ -56,3 +56,9 @@ stored_is a f h base homes codes slots names start undef pages m n i i' k k' s s
     let p : pages ≡ mapped_pages f h = omega arith in
     let c : n ≡ length names = omega arith in
     rw (← head, l.image, l.marks, l.sections, w.symbols, w.externs, b.fixes, b.skips, machine, p, begins, u, c, lim.names, lim.home, lim.row, lim.target)
+
+-- ---- where a caller has its own buffers again, they hold what is in the lent ones
+pub left_in : {image marks sections symbols externs fixups skips image' marks' sections' symbols' externs' fixups' skips' : List ℕ} → image ≡ image' → marks ≡ marks' → sections ≡ sections' → symbols ≡ symbols'
+    → externs ≡ externs' → fixups ≡ fixups' → skips ≡ skips'
+    → storage image marks sections symbols externs fixups skips ≡ storage image' marks' sections' symbols' externs' fixups' skips'
+left_in i m s y e x k = rw (i, m, s, y, e, x, k)

@@ -18,6 +18,7 @@ use Rattle.tables.specs.Externs.{extern_table}
 use Rattle.lists.specs.Relocations.{fix_table, skip_table}
 use Rattle.image.specs.Laid.{laid}
 use Rattle.marks.specs.Marks.{words_for, mark_bytes}
+use Rattle.storage.specs.declared.Lent.{Lent}
 
 -- the seven lent buffers
 pub record Storage : Type 0 where
@@ -33,6 +34,20 @@ pub record Storage : Type 0 where
 abbrev pub storage : List ℕ → List ℕ → List ℕ → List ℕ → List ℕ → List ℕ → List ℕ → Storage
 storage image marks sections symbols externs fixups skips =
     record { image = image; marks = marks; sections = sections; symbols = symbols; externs = externs; fixups = fixups; skips = skips }
+
+-- what the caller's buffers hold
+abbrev pub storage_of : Lent → Storage
+storage_of l = storage l.image.now l.marks.now l.sections.now l.symbols.now l.externs.now l.fixups.now l.skips.now
+
+-- the buffers are the same ones
+pub record SameBuffers (before after : Lent) : Type 0 where
+  pub image : after.image.ghost_name ≡ before.image.ghost_name
+  pub marks : after.marks.ghost_name ≡ before.marks.ghost_name
+  pub sections : after.sections.ghost_name ≡ before.sections.ghost_name
+  pub symbols : after.symbols.ghost_name ≡ before.symbols.ghost_name
+  pub externs : after.externs.ghost_name ≡ before.externs.ghost_name
+  pub fixups : after.fixups.ghost_name ≡ before.fixups.ghost_name
+  pub skips : after.skips.ghost_name ≡ before.skips.ghost_name
 
 -- ---- what is written: `home` says where a section's home starts, `row` which record it is, `slots` has the extern names' symbols, `target` says what each
 -- symbol comes to

@@ -5,11 +5,23 @@ ghost use Rattle.std.specs.Prelude.{◌≡◌};
 ghost use Rattle.le.specs.Le.{part};
 ghost use Rattle.object.specs.Format.{header_of};
 ghost use Rattle.homes.specs.Home.{home_in, record_in};
-ghost use Rattle.storage.specs.Storage.{storage, stored, Known};
+ghost use Rattle.storage.specs.Storage.{SameBuffers, storage_of, stored, Known};
 ghost use Rattle.storage.specs.Writing.{LayoutIs, NamesAre};
 
 use arch::{Arch, RVA, VA};
 use object::Header;
+
+// What the caller lends to a load: a buffer for each thing that it writes.
+#[derive(Drop)]
+pub struct Lent<'a> {
+    pub image: &'a mut [u8],
+    pub marks: &'a mut [u8],
+    pub sections: &'a mut [u8],
+    pub symbols: &'a mut [u8],
+    pub externs: &'a mut [u8],
+    pub fixups: &'a mut [u8],
+    pub skips: &'a mut [u8],
+}
 
 // The section table, the image and its marks.
 fn write_layout(
@@ -58,18 +70,11 @@ pub fn write_all(
     codes: &[u16],
     slots: &[u32],
     n: usize,
-    image: &mut [u8],
-    marks: &mut [u8],
-    sections: &mut [u8],
-    symbols: &mut [u8],
-    externs: &mut [u8],
-    fixups: &mut [u8],
-    skips: &mut [u8],
+    lent: &mut Lent,
 )
-    ensures { Known f.now (header_of f.now) homes.now codes.now (part slots.now 0 n)
-        → storage image.new marks.new sections.new symbols.new externs.new fixups.new skips.new
-        ≡ stored f.now (header_of f.now) base.0
-        (storage image.old marks.old sections.old symbols.old externs.old fixups.old skips.old) }
+    ensures same { SameBuffers lent.old lent.new }
+    ensures writes { Known f.now (header_of f.now) homes.now codes.now (part slots.now 0 n)
+        → storage_of lent.new ≡ stored f.now (header_of f.now) base.0 (storage_of lent.old) }
 {
     let h = object::read_header(f);
     let start = layout::undef_start(f, h);
@@ -80,8 +85,37 @@ pub fn write_all(
     let low = names.len() % 0x100000000;
     let count = low as u32;
     write_layout(
-        f, h, base, homes, start, pages, count, sections, image, marks,
+        f,
+        h,
+        base,
+        homes,
+        start,
+        pages,
+        count,
+        lent.sections,
+        lent.image,
+        lent.marks,
     );
-    write_names(f, h, base, homes, start, count, names, symbols, externs);
-    lists::write_relocations(arch, f, h, homes, undef, codes, base, fixups, skips);
+    write_names(
+        f,
+        h,
+        base,
+        homes,
+        start,
+        count,
+        names,
+        lent.symbols,
+        lent.externs,
+    );
+    lists::write_relocations(
+        arch,
+        f,
+        h,
+        homes,
+        undef,
+        codes,
+        base,
+        lent.fixups,
+        lent.skips,
+    );
 }

@@ -11,6 +11,7 @@ mod say;
 
 use arch::{Arch, VA};
 use refusal::Refusal;
+use storage::Lent;
 use survey::Counts;
 
 const BASE: u64 = 0x20000000;
@@ -45,17 +46,16 @@ fn loaded(f: &[u8]) {
     let mut externs = [0u8; 4096];
     let mut fixups = [0u8; 3072];
     let mut skips = [0u8; 3072];
-    let s = load::load(
-        f,
-        VA(BASE),
-        &mut image,
-        &mut marks,
-        &mut sections,
-        &mut symbols,
-        &mut externs,
-        &mut fixups,
-        &mut skips,
-    );
+    let mut lent = Lent {
+        image: &mut image,
+        marks: &mut marks,
+        sections: &mut sections,
+        symbols: &mut symbols,
+        externs: &mut externs,
+        fixups: &mut fixups,
+        skips: &mut skips,
+    };
+    let s = load::load(f, VA(BASE), &mut lent);
     match s {
         Err(r) => refused(r),
         Ok(c) => {

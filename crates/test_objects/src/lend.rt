@@ -2,12 +2,14 @@
 use crate::{act, say};
 use arch::VA;
 use refusal::Refusal;
+use storage::Lent;
 use survey::Counts;
 
 // What stands in every byte before.
 const PATTERN: u8 = 0xA5;
 
 // The line asks for the load; the actions follow it in the text.
+#[tactic(auto, using(crate::proofs::Laws::same_long))]
 pub(crate) fn at(line: &[u8], base: u64, f: &[u8], text: &[u8], from: usize) {
     let mut image = [PATTERN; 65536];
     let mut marks = [PATTERN; 8192];
@@ -16,17 +18,16 @@ pub(crate) fn at(line: &[u8], base: u64, f: &[u8], text: &[u8], from: usize) {
     let mut externs = [PATTERN; 8192];
     let mut fixups = [PATTERN; 8192];
     let mut skips = [PATTERN; 8192];
-    let s = load::load(
-        f,
-        VA(base),
-        &mut image,
-        &mut marks,
-        &mut sections,
-        &mut symbols,
-        &mut externs,
-        &mut fixups,
-        &mut skips,
-    );
+    let mut lent = Lent {
+        image: &mut image,
+        marks: &mut marks,
+        sections: &mut sections,
+        symbols: &mut symbols,
+        externs: &mut externs,
+        fixups: &mut fixups,
+        skips: &mut skips,
+    };
+    let s = load::load(f, VA(base), &mut lent);
     act::all(
         text,
         from,
