@@ -1,5 +1,5 @@
 // Reading at any place.
-ghost use Rattle.std.specs.Prelude.{◌≡◌, ◌≤◌, length, IfOk, IfErr};
+ghost use Rattle.std.specs.Prelude.{◌≡◌, length, IfOk, IfErr};
 ghost use Rattle.util.specs.Pick.{pick};
 ghost use Rattle.arch.specs.Address.{rva};
 ghost use Rattle.arch.specs.Machine.{pointer_size};

@@ -1,7 +1,7 @@
 // Questions to the tables of symbols and of extern names that load wrote. Numbers are those of the records, from 0.
 #![tactic(auto)]
 
-ghost use Rattle.std.specs.Prelude.{◌≡◌, ℕ, ◌+◌, ◌*◌, ◌≤◌, ◌<◌, ◌^◌, List};
+ghost use Rattle.std.specs.Prelude.{◌≡◌, ℕ, ◌*◌, ◌<◌, List};
 ghost use Rattle.std.proofs.Common.{rules};
 ghost use Rattle.limits.specs.Records.{WORD, SYMBOL_WORDS, EXTERN_WORDS, NAME_LENGTH};
 ghost use Rattle.symbols.specs.Symbol.{
@@ -32,7 +32,6 @@ pub trait Record: Sized {
     ghost record_of: { List ℕ → ℕ → Self };
 
     fn read(table: &[u8], k: usize) -> Self
-        requires { WORD * (WORDS * k + WORDS) ≤ 2 ^ 64 }
         ensures { result ≡ record_of table.now k };
 
     // The words of the name are among them.

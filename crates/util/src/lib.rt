@@ -1,7 +1,7 @@
 // Rounding up, from util.rs, and what every layer shares: a choice by a test, recursion over the numbers below n, the fold over relocations.
 #![tactic(auto)]
 
-ghost use Rattle.std.specs.Prelude.{◌≡◌, ◌+◌, ◌%◌, ◌^◌, max, ◌&&◌, ◌||◌, nat_le};
+ghost use Rattle.std.specs.Prelude.{◌≡◌, ◌+◌, ◌%◌, ◌^◌, max, nat_le};
 ghost use Rattle.util.specs.Align.{round_up};
 
 // `i` rounded up to a multiple of `b`; a `b` of 0 or 1 rounds nothing. Past 64 bits the answer wraps, as the Rust's release build does; no caller comes near that.

@@ -1,7 +1,7 @@
 // Records of whole words, eight bytes each, the low byte first. A word that would begin past the end is left out.
 #![tactic(auto)]
 
-ghost use Rattle.std.specs.Prelude.{◌≡◌, ◌+◌, ◌-◌, ◌*◌, ◌/◌, ◌^◌, ◌<◌, ◌≤◌, min, leb, length};
+ghost use Rattle.std.specs.Prelude.{◌≡◌, ◌+◌, ◌-◌, ◌*◌, ◌/◌, ◌<◌, ◌≤◌, min, leb, length};
 ghost use Rattle.limits.specs.Records.{WORD};
 ghost use Rattle.le.specs.Le.{le, splice};
 ghost use Rattle.words.specs.Words.{word_bytes, word_of};
