@@ -53,7 +53,7 @@ impl<'a> Question<'a> {
         match self.function {
             0 => {
                 let mut bytes = [0x5Au8; 4097];
-                if self.behind == self.at + 1 {
+                if self.behind == 4 {
                     cases::bytes_at(self.line, self.behind, &mut bytes);
                 }
                 write::write(image, marks, at, le::part(&bytes, 0, n as usize))
