@@ -45,7 +45,7 @@ impl Place for Absolute {
 
     fn offset(self, n: u64) -> Option<RVA> {
         let offset = self.address.offset(self.base)?;
-        self.address.0.checked_add(n.max(1) - 1)?;
+        self.address.0.checked_add(util::most(n, 1) - 1)?;
         Some(offset)
     }
 }

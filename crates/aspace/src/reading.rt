@@ -47,7 +47,7 @@ pub fn read_into<P: Place>(image: &[u8], marks: &[u8], at: P, buf: &mut [u8]) ->
     ensures { Leaves (read_code_there (P.reaches at (length buf.old)) (length image.now) marks.now (P.start at) (length buf.old))
         buf.old (part image.now (P.start at) (length buf.old)) buf.new result }
 {
-    buf.copy_from_slice(bytes(image, marks, at, buf.len())?);
+    le::copy(buf, 0, bytes(image, marks, at, buf.len())?);
     Ok(())
 }
 

@@ -1,5 +1,4 @@
 // What stands behind a question; each part brings its own space.
-use refusal::Refusal;
 
 // Bytes as they stand.
 pub fn text(s: &[u8]) {
@@ -70,24 +69,24 @@ pub fn bytes(s: &[u8]) {
     }
 }
 
-// The number of a refusal.
-pub fn refused(r: Refusal) {
+// The number of a refusal; any number may stand there.
+pub fn refused(code: u64) {
     text(b" refused");
-    decimal(r.number());
+    decimal(code);
 }
 
 // What an operation says that only writes.
-pub fn answer(a: Result<(), Refusal>) {
+pub fn answer(a: Result<(), u64>) {
     match a {
         Ok(()) => text(b" done"),
-        Err(r) => refused(r),
+        Err(code) => refused(code),
     }
 }
 
 // A number in hexadecimal, or the refusal.
-pub fn number(n: Result<u64, Refusal>) {
+pub fn number(n: Result<u64, u64>) {
     match n {
         Ok(v) => hex(v),
-        Err(r) => refused(r),
+        Err(code) => refused(code),
     }
 }

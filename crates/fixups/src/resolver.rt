@@ -37,7 +37,7 @@ pub fn types_of<'a>(arch: Arch) -> &'a [u8]
 impl<'a> Resolver<'a> {
     // What becomes of relocation k of a section: `records` says where its records are, `word` is what is kept of its home. Compiled into the loop of each pass
     // over the relocations.
-    #[inline]
+    #[inline(always)]
     #[tactic(auto, using(crate::specs::Outcome::by_record, kinds::specs::Rows::row_by_rows))]
     pub fn outcome_of(self, records: Records, word: u32, k: u32) -> Outcome
         ensures { result ≡ by_home self.entry.arch (target_in self.entry.homes.now self.entry.undef self.entry.codes.now) (word_home word) (relocation_in self.entry.file.now (record_at records k)) }

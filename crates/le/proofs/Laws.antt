@@ -1,6 +1,6 @@
 -- What the library's slices and numbers give, in the words of specs/Le.antt. Assumes nothing.
 use Rattle.std.specs.Prelude.{◌≡◌, List, [], ◌∷◌, ◌++◌, ℕ, zero, suc, ◌+◌, ◌-◌, ◌*◌, ◌/◌, ◌%◌, ◌^◌, ◌≤◌, ◌<◌, min, length, get_or, set, take, drop, replicate, refl}
-use Rattle.std.proofs.Common.{sym, ap, ◌∙◌, ⊎_elim, arith, zero-add, suc-add, pow-suc, length-drop, length-take, get_or-drop, subst}
+use Rattle.std.proofs.Common.{sym, ap, ◌∙◌, ⊎_elim, arith, zero-add, suc-add, add-zero, add-one, mul_comm, pow-suc, length-drop, length-take, length-set, get_or-drop, drop-cons, subst}
 use Rattle.std.proofs.Math.Nat.{pow-zero, div-one, div-div-eq-div-mul}
 use Rattle.std.proofs.lemmas.List.{take_min, take_all, take-append-drop, take-replicate, length-take-le, length-replicate, drop_all, get_or_past}
 use Rattle.std.proofs.lemmas.List.Edits.{sets, sets-eq}
@@ -88,7 +88,54 @@ module _ (l : List ℕ) (at : ℕ) (vs : List ℕ) (m k : ℕ) (begins : m ≡ m
       let r : paste l m (take k vs) k ≡ sets l m (take k vs) = rw (q, t, w) in
       rw d (p ∙ r ∙ front_put ∙ begins_there)
 
--- the same of a whole array that fits, and of zeros
+-- ---- a run put element by element: what is left of it goes behind the first i
+pub record Putting (l : List ℕ) (at : ℕ) (vs : List ℕ) (i : ℕ) (b : List ℕ) : Type 0 where
+  pub long : length b ≡ length l
+  pub rest : splice l at vs ≡ splice b (at + i) (drop i vs)
+
+module _ (l : List ℕ) (at : ℕ) (vs : List ℕ) where
+  pub put_none : Putting l at vs 0 l
+  put_none = record { long = refl; rest = rw add-zero }
+
+  pub put_step : (i x : ℕ) (b : List ℕ) → i < length vs → x ≡ get_or vs i 0 → Putting l at vs i b → Putting l at vs (i + 1) (set b (at + i) x)
+  unfolding splice
+  put_step i x b h e p =
+      let f : at + (i + 1) ≡ suc (at + i) = omega arith in
+      record { long = rw length-set p.long; rest = p.rest ∙ rw (f, add-one, drop-cons vs i 0 h, e) }
+
+  -- the loop stops where the run ends, or where the buffer does
+  pub put_end : (m : ℕ) (b : List ℕ) → m ≡ min (length vs) (length l - at) → Putting l at vs m b → b ≡ splice l at vs
+  unfolding splice
+  put_end m b e p =
+      ⊎_elim (λ (h : length vs ≤ m). sym (p.rest ∙ rw (drop_all m vs h)))
+      (λ (h : m < length vs). sym (p.rest ∙ splice_past b (at + m) (drop m vs) (rw p.long (omega arith))))
+      (le_or_lt (length vs) m)
+
+pub ruleset putting = (put_none, put_end)
+
+-- the low bytes of a number, one a turn
+pub le_begin : (v : ℕ) → v ≡ v / 256 ^ 0
+le_begin v = rw (pow-zero, div-one)
+
+pub le_rest : (v i w : ℕ) → w ≡ v / 256 ^ i → w / 256 ≡ v / 256 ^ (i + 1)
+le_rest v i w e = rw (e, add-one, pow-suc) (div-div-eq-div-mul v (256 ^ i) 256)
+
+le_at : (n v i : ℕ) → i < n → v / 256 ^ i % 256 ≡ get_or (le n v) i 0
+unfolding le
+le_at zero v i h = absurd (omega arith)
+le_at (suc n) v zero h = rw (pow-zero, div-one)
+le_at (suc n) v (suc i) h =
+    let e : v / 256 ^ suc i ≡ v / 256 / 256 ^ i = sym (rw pow-suc (div-div-eq-div-mul v 256 (256 ^ i) ∙ ap (λ (k : ℕ). v / k) (mul_comm 256 (256 ^ i)))) in
+    rw e (le_at n (v / 256) i (omega arith))
+
+pub le_step : (l : List ℕ) (at n v i w m : ℕ) (b : List ℕ) → m ≡ min n (length l - at) → i < m → w ≡ v / 256 ^ i → Putting l at (le n v) i b
+    → Putting l at (le n v) (i + 1) (set b (at + i) (w % 256))
+le_step l at n v i w m b e h q p = put_step l at (le n v) i (w % 256) b (rw length_le (omega arith)) (rw q (le_at n v i (omega arith))) p
+
+pub le_end : (l : List ℕ) (at n v m : ℕ) (b : List ℕ) → m ≡ min n (length l - at) → Putting l at (le n v) m b → b ≡ splice l at (le n v)
+le_end l at n v m b e p = put_end l at (le n v) m b (rw length_le e) p
+
+-- the same of a whole array that fits, as a number's bytes, and of zeros
 pub array_put : (l : List ℕ) (at : ℕ) (vs : List ℕ) (m n : ℕ) → m ≡ min at (length l) → length vs ≡ n → n ≤ length l - m
     → put_mid m (m + n - m) l vs ≡ splice l at vs
 array_put l at vs m n b e h = run_put l at vs m n b (omega arith) vs (sym (take_all n vs (omega arith)))
@@ -127,59 +174,17 @@ bytes_from (suc n) i v = rw (byte_is i v, next_byte i v) (ap (λ (l : List ℕ).
 bytes_are : (n v : ℕ) → bytes_low_first 0 n v ≡ le n v
 bytes_are n v = bytes_from n 0 v ∙ rw (pow-zero, div-one)
 
--- the n low bytes of a number are the first of more of them, and past those that it has they are 0
-le_front : (n m v : ℕ) → n ≤ m → take n (le m v) ≡ le n v
-unfolding le
-le_front zero m v h = refl
-le_front (suc n) zero v h = absurd (omega arith)
-le_front (suc n) (suc m) v h = ap (λ (l : List ℕ). v % 256 ∷ l) (le_front n m (v / 256) (omega arith))
-
-le_zero : (n : ℕ) → le n 0 ≡ replicate n 0
-unfolding le
-le_zero zero = refl
-le_zero (suc n) = ap (λ (l : List ℕ). 0 ∷ l) (le_zero n)
-
-le_more : (m n v : ℕ) → v < 256 ^ m → le (m + n) v ≡ le m v ++ replicate n 0
-unfolding le
-le_more zero n v h = let z : v ≡ 0 = omega arith in rw (zero-add, z) (le_zero n)
-le_more (suc m) n v h =
-    let e : 256 ^ suc m ≡ 256 ^ m * 256 = pow-suc _ _ in
-    rw suc-add (ap (λ (l : List ℕ). v % 256 ∷ l) (le_more m n (v / 256) (omega arith)))
+pub number_bytes : (n v : ℕ) (x : List ℕ) → x ≡ bytes_low_first 0 n v → x ≡ le n v
+number_bytes n v x e = e ∙ bytes_are n v
 
 -- such a number's bytes, put
 module _ (l : List ℕ) (at n v : ℕ) where
-  pub number_put : (b x : List ℕ) → x ≡ bytes_low_first 0 n v → b ≡ splice l at x → b ≡ splice l at (le n v)
-  number_put b x e d = d ∙ ap (splice l at) (e ∙ bytes_are n v)
-
   -- where all of them fit
   pub number_set : (x : List ℕ) → at + n ≤ length l → x ≡ bytes_low_first 0 n v → put_mid at (at + n - at) l x ≡ splice l at (le n v)
   number_set x h e =
       let q : x ≡ le n v = e ∙ bytes_are n v in
       let t : length x ≡ n = rw q (length_le n v) in
       array_put l at x at n (omega arith) t (omega arith) ∙ ap (splice l at) q
-
-  -- n of its bytes: those that it has, and zeros, as far as an address reaches
-  pub low_bytes_put : (x b c : List ℕ) (k j : ℕ) → v < 2 ^ 64 → length l < 2 ^ 64 → x ≡ bytes_low_first 0 8 v → k ≡ min n 8 → b ≡ splice l at (take k x)
-      → j ≡ min (at + 8) (2 ^ 64 - 1) → c ≡ splice b j (replicate (n - 8) 0) → c ≡ splice l at (le n v)
-  unfolding splice
-  low_bytes_put x b c k j f g ex ek eb ej ec =
-      let w : take k x ≡ le k v = rw (ex, bytes_are 8 v) (le_front k 8 v (omega arith)) in
-      let y : b ≡ splice l at (le k v) = eb ∙ ap (splice l at) w in
-      let lb : length b ≡ length l = splice_long l b at (le k v) y in
-      ⊎_elim
-      (λ (h : n ≤ 8). let z : n - 8 ≡ 0 = omega arith in let z2 : k ≡ n = omega arith in (rw z at ec) ∙ rw z2 at y)
-      (λ (h : 8 < n).
-      let z : k ≡ 8 = omega arith in
-      let t : length (le 8 v) ≡ 8 = length_le 8 v in
-      let m : le n v ≡ le 8 v ++ replicate (n - 8) 0 = (let q : n ≡ 8 + (n - 8) = omega arith in ap (λ (i : ℕ). le i v) q) ∙ le_more 8 (n - 8) v (omega arith) in
-      let p : b ≡ splice l at (le 8 v) = rw z at y in
-      let r : splice b (at + 8) (replicate (n - 8) 0) ≡ splice l at (le n v) = rw (p, m) (splice_next l at (le 8 v) (replicate (n - 8) 0) (at + 8) (omega arith)) in
-      let u : splice b j (replicate (n - 8) 0) ≡ splice b (at + 8) (replicate (n - 8) 0) =
-      ⊎_elim (λ (i : at + 8 ≤ 2 ^ 64 - 1). let o : j ≡ at + 8 = omega arith in rw o)
-      (λ (i : 2 ^ 64 - 1 < at + 8). splice_past b j (replicate (n - 8) 0) (omega arith) ∙ sym (splice_past b (at + 8) (replicate (n - 8) 0) (omega arith)))
-      (le_or_lt (at + 8) (2 ^ 64 - 1)) in
-      ec ∙ u ∙ r)
-      (le_or_lt n 8)
 
 -- ---- a number of bytes: its sum is the number that stands there
 get_last : (n : ℕ) (l : List ℕ) (i : ℕ) → get (suc n) l i ≡ get n l i + get_or l (i + n) 0 * 256 ^ n

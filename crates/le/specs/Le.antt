@@ -3,7 +3,7 @@ use Rattle.std.specs.Prelude.{◌≡◌, List, [], ◌∷◌, ◌++◌, ℕ, zer
 use Rattle.std.proofs.Math.Path.{refl}
 use Rattle.std.proofs.Common.{sym, ap, ◌∙◌, ⊎_elim, arith, zero-add, add-zero, suc-add, add-suc, pow-suc, mod-lt, add-one, length-set, length-drop, length-take, get_or-set_other, get_or-set_same, get_or-take, get_or-drop, ext_get_or}
 use Rattle.std.proofs.Math.Nat.{pow-zero, one-le-pow}
-use Rattle.std.proofs.lemmas.List.{length-replicate, set_comm}
+use Rattle.std.proofs.lemmas.List.{length-replicate, set_comm, drop_all, append-nil}
 use Rattle.std.proofs.lemmas.List.Edits.{sets, sets-eq}
 use Rattle.std.proofs.Math.Seq.{length-sets, set_out}
 use Rattle.std.proofs.Math.Arith.{mod-mul}
@@ -124,6 +124,10 @@ splice_apart l i (a ∷ xs) j ys h =
 pub splice_front : (l vs : List ℕ) → length vs ≤ length l → splice l 0 vs ≡ vs ++ drop (length vs) l
 unfolding splice
 splice_front l vs h = sets-eq vs l 0 (omega arith) ∙ rw zero-add
+
+-- a run as long as the list takes its place
+pub splice_whole : (l vs b : List ℕ) → length vs ≡ length l → b ≡ splice l 0 vs → b ≡ vs
+splice_whole l vs b h e = e ∙ splice_front l vs (omega arith) ∙ rw (drop_all (length vs) l (omega arith)) (append-nil vs)
 
 -- a loop that puts an element a turn, from the front on
 module _ (g : ℕ → ℕ) (l : List ℕ) where

@@ -17,10 +17,12 @@ pub fn byte_at(s: &[u8], at: usize) -> u8
 fn bytes_at<const N: usize>(s: &[u8], at: usize) -> [u8; N]
     ensures { (k : ℕ) → k < N → get_or result k 0 ≡ get_or s.now (at + k) 0 }
 {
-    let rest = &s[at.min(s.len())..];
-    match rest.first_chunk() {
-        Some(bytes) => *bytes,
-        None => array::from_fn(|k| byte_at(rest, k)),
+    match s.get(at..) {
+        Some(rest) => match rest.first_chunk() {
+            Some(bytes) => *bytes,
+            None => array::from_fn(|k| byte_at(rest, k)),
+        },
+        None => [0; N],
     }
 }
 
@@ -61,14 +63,14 @@ pub fn room(len: usize, at: usize, n: usize) -> usize
     n.min(len.saturating_sub(at))
 }
 
-// The bytes of `s` from `at` on.
-#[tactic(auto, using(crate::proofs::Laws::run_put))]
+// The bytes of `s` from `at` on. A loop of its own: an archive that copied by the library would need `memcpy` from the host.
+#[tactic(auto, using(crate::proofs::Laws::putting))]
 pub fn copy(b: &mut [u8], at: usize, s: &[u8])
     ensures { b.new ≡ splice b.old at s.now }
 {
-    let start = at.min(b.len());
-    let n = room(b.len(), start, s.len());
-    b[start..start + n].copy_from_slice(&s[..n]);
+    for i in 0..room(b.len(), at, s.len()) {
+        b[at + i] = s[i];
+    }
 }
 
 // `n` zeros from `at` on.
@@ -81,26 +83,28 @@ pub fn zero(b: &mut [u8], at: usize, n: usize)
     b[start..start + n].fill(0);
 }
 
-// The bytes of a number from `at` on. Where all of them fit this is one store.
-#[tactic(auto, using(crate::proofs::Laws::array_put))]
-fn put_bytes<const N: usize>(b: &mut [u8], at: usize, bytes: [u8; N])
-    ensures { b.new ≡ splice b.old at bytes.entry }
+// The `n` low bytes of `v` from `at` on; of more than it has the rest are 0.
+pub fn put(b: &mut [u8], at: usize, n: usize, v: u64)
+    ensures { b.new ≡ splice b.old at (le n v) }
+{
+    let mut w = v;
+    for i in 0..room(b.len(), at, n) {
+        b[at + i] = (w % 256) as u8;
+        w /= 256;
+    }
+}
+
+// The `N` bytes of a number, from `at` on. Where all of them fit this is one store.
+fn put_bytes<const N: usize>(b: &mut [u8], at: usize, bytes: [u8; N], v: u64)
+    requires { bytes ≡ le N v }
+    ensures { b.new ≡ splice b.old at (le N v) }
 {
     let start = at.min(b.len());
     if N <= b.len() - start {
         b[start..start + N].copy_from_slice(&bytes);
     } else {
-        copy(b, at, &bytes);
+        put(b, at, N, v);
     }
-}
-
-// The `n` low bytes of `v` from `at` on; of more than it has the rest are 0.
-#[tactic(auto, using(crate::proofs::Laws::low_bytes_put))]
-pub fn put(b: &mut [u8], at: usize, n: usize, v: u64)
-    ensures { b.new ≡ splice b.old at (le n v) }
-{
-    copy(b, at, &v.to_le_bytes()[..n.min(8)]);
-    zero(b, at.saturating_add(8), n.saturating_sub(8));
 }
 
 // A byte at a place.
@@ -114,27 +118,27 @@ pub fn put_u8(b: &mut [u8], at: usize, v: u8)
 }
 
 // The two bytes of a number.
-#[tactic(auto, using(crate::proofs::Laws::number_put))]
+#[tactic(auto, using(crate::proofs::Laws::number_bytes))]
 pub fn put_u16(b: &mut [u8], at: usize, v: u16)
     ensures { b.new ≡ splice b.old at (le 2 v) }
 {
-    put_bytes(b, at, u16::to_le_bytes(v));
+    put_bytes(b, at, u16::to_le_bytes(v), u64::from(v));
 }
 
 // Its four bytes.
-#[tactic(auto, using(crate::proofs::Laws::number_put))]
+#[tactic(auto, using(crate::proofs::Laws::number_bytes))]
 pub fn put_u32(b: &mut [u8], at: usize, v: u32)
     ensures { b.new ≡ splice b.old at (le 4 v) }
 {
-    put_bytes(b, at, u32::to_le_bytes(v));
+    put_bytes(b, at, u32::to_le_bytes(v), u64::from(v));
 }
 
 // Its eight bytes.
-#[tactic(auto, using(crate::proofs::Laws::number_put))]
+#[tactic(auto, using(crate::proofs::Laws::number_bytes))]
 pub fn put_u64(b: &mut [u8], at: usize, v: u64)
     ensures { b.new ≡ splice b.old at (le 8 v) }
 {
-    put_bytes(b, at, u64::to_le_bytes(v));
+    put_bytes(b, at, u64::to_le_bytes(v), v);
 }
 
 // The same for 32-bit words: the one at `at`, 0 past the end; one put there; and the first `n`, as far as there are any.

@@ -199,7 +199,8 @@ fn long_span(f: &[u8], h: Header, offset: u32) -> Span
     }
 }
 
-// Where symbol j's name stands.
+// Where symbol j's name stands. Compiled into the walk over the extern names, which asks it of each that has an equal key.
+#[inline(always)]
 #[tactic(auto, using(util::specs::Pick::picks), unfolding(crate::specs::Name::span_at))]
 pub fn symbol_span(f: &[u8], h: Header, j: u32) -> Span
     ensures { result ≡ symbol_span f.now h j }

@@ -1,11 +1,13 @@
 -- What the code asks: pages against bytes, and each check's ways. Assumes nothing.
 use Rattle.refusal.specs.Refusal.{Code, PASSES, STORAGE, NOT_MAPPED}
+use Rattle.le.specs.Le.{splice, part, splice_whole}
+use lib.Seq.{length-take-le}
 use mathlib.Core.Path.{◌≡◌, sym, ◌∙◌}
 use mathlib.Core.Bool.{Bool, true, false, not}
 use mathlib.Core.List.{List}
 use Prim.Native.Nat.{ℕ, ◌+◌, ◌-◌, ◌*◌, ◌^◌, ◌≤◌, ◌<◌, max}
 use native.Mathlib.Omega.{arith}
-use lib.ListN.{length}
+use lib.ListN.{length, length-drop, take, drop}
 use lib.Dec.{ltb, leb}
 use borrow.Author.Tests.{le-ltb, le-leb, lt-leb, leb-true, leb-false, not-true, not-false}
 use Rattle.util.specs.Pick.{pick, both_ways}
@@ -110,3 +112,12 @@ module _ (size : ℕ) (marks : List ℕ) (k : Code) where
     slice_end e z = slice_in size marks start end room (cc)
 
 pub ruleset reads = (read_end, slice_order, slice_end)
+
+-- a read as long as the buffer takes its place
+pub whole_read : (image buf x : List ℕ) (from : ℕ) → from + max (length buf) 1 ≤ length image
+    → x ≡ splice buf 0 (take (from + length buf - from) (drop from image)) → x ≡ part image from (length buf)
+unfolding part
+whole_read image buf x from h e =
+    let n : from + length buf - from ≡ length buf = omega arith in
+    let d : length (drop from image) ≡ length image - from = length-drop from image in
+    splice_whole buf (take (length buf) (drop from image)) x (length-take-le (length buf) (drop from image) (omega arith)) (rw n at e)

@@ -21,7 +21,7 @@ pub fn storage_ok(size: u64, marks: u64) -> bool
 pub fn span_mapped(size: u64, marks: &[u8], o: RVA, n: u64) -> bool
     ensures { result ≡ span_mapped size marks.now o.0 n }
 {
-    let m = n.max(1);
+    let m = util::most(n, 1);
     if !util::within(o.0, m, size / PAGE_SIZE * PAGE_SIZE) {
         return false;
     }
@@ -63,7 +63,7 @@ pub fn get(image: &[u8], marks: &[u8], rva: RVA) -> Result<u64, Refusal>
 }
 
 // The bytes from `start` on, as many as `buf` takes.
-#[tactic(auto, using(crate::proofs::Laws::reads, refusal::specs::Refusal::answers), unfolding(le::specs::Le::part))]
+#[tactic(auto, using(crate::proofs::Laws::reads, refusal::specs::Refusal::answers))]
 pub fn slice_into(image: &[u8], marks: &[u8], start: RVA, buf: &mut [u8]) -> Result<(), Refusal>
     ensures { Leaves (read_code (length image.now) marks.now start.0 (length buf.old))
         buf.old (part image.now start.0 (length buf.old)) buf.new result }
@@ -71,7 +71,7 @@ pub fn slice_into(image: &[u8], marks: &[u8], start: RVA, buf: &mut [u8]) -> Res
     let n = buf.len();
     read_code(image.len() as u64, marks, start, n as u64)?;
     let from = start.0 as usize;
-    buf.copy_from_slice(&image[from..from + n]);
+    le::copy(buf, 0, &image[from..from + n]);
     Ok(())
 }
 

@@ -1,5 +1,4 @@
 -- What is asked of one record of the section table (01, "module.rs").
-use Rattle.refusal.specs.declared.Refusal.{Refusal}
 use Rattle.std.specs.Prelude.{◌≡◌, Bool, false, ◌&&◌, ◌||◌, List, ℕ, ◌/◌, ◌%◌, leb, ltb, eqb, None, Option, Some, Result, Ok, Err}
 use Rattle.std.proofs.Math.Bool.{and-false}
 use Rattle.util.specs.Pick.{pick}
@@ -24,7 +23,7 @@ abbrev pub file_holds : ℕ → Section → Bool
 file_holds o s = within s.file_start s.file_end o
 
 -- it has the byte of the file that an answer names
-abbrev pub has_byte : Section → Result ℕ Refusal → Bool
+abbrev pub has_byte : {E : Type 0} → Section → Result ℕ E → Bool
 has_byte s (Ok o) = file_holds o s
 has_byte s (Err k) = false
 

@@ -15,7 +15,6 @@ ghost use Rattle.section.specs.Section.{
 };
 
 use arch::{RVA, VA};
-use refusal::Refusal;
 
 // A record of the section table: its range in memory, its range in the file, read 1, write 2 and execute 4 added,
 // where its name stands in the file, and its number there, 0 for UNDEF.
@@ -61,8 +60,8 @@ impl Section {
         within(self.file_start, self.file_end, offset)
     }
 
-    // It has the byte of the file that an answer names.
-    pub fn has_byte(self, n: Result<u64, Refusal>) -> bool
+    // It has the byte of the file that an answer names; whatever is told in place of one, it has none.
+    pub fn has_byte<E: Copy>(self, n: Result<u64, E>) -> bool
         ensures { result ≡ has_byte self n }
     {
         n.is_ok_and(|offset| self.file_holds(offset))

@@ -1,9 +1,9 @@
 -- What the C functions do is what the operations do, also on refusal: what is proved of load and patch (demands 1 and 3) holds of them.
 use Rattle.survey.specs.declared.answer.Counts.{Counts}
 use Rattle.refusal.specs.declared.Refusal.{Refusal}
-use Rattle.std.specs.Prelude.{◌≡◌, refl, Bool, true, false, List, ℕ, leb, length, Result, Ok, Err}
+use Rattle.std.specs.Prelude.{◌≡◌, refl, Bool, true, false, List, ℕ, suc, leb, eqb, length, Result, Ok, Err}
 use Rattle.std.proofs.Math.Path.{sym, ap}
-use Rattle.std.proofs.Common.{◌∙◌, ⊎_elim}
+use Rattle.std.proofs.Common.{◌∙◌, ⊎_elim, arith, ne_eqb}
 use Rattle.util.specs.Pick.{pick, yes_no}
 use Rattle.refusal.specs.Refusal.{Code, PASSES, STORAGE, POSITION, code_number, code_numbered, code_back, answer_of, unless_refused}
 use Rattle.object.specs.Format.{header_of}
@@ -14,6 +14,10 @@ use Rattle.loading.specs.Load.{load_checks, load_answer, Loads}
 use Rattle.patch.specs.Fixes.{fix_count, fixed_from}
 use Rattle.patch.specs.Patch.{portion, patch_code, patch_answer, Patches}
 use Rattle.station.specs.Station.{code_with, patch_code_with, untold_patch_code, Loaded, Patched}
+
+-- no number of a refusal is 0
+pub not_zero : (k : ℕ) → eqb (suc k) 0 ≡ false
+not_zero k = ne_eqb (suc k) 0 (λ e. omega arith)
 
 -- with room, the code is the operation's own; without, a buffer keeps what it had
 pub room_same : (n : ℕ) (out : List ℕ) (code : Code) → leb n (length out) ≡ true → code_with n out code ≡ code

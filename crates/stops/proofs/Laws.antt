@@ -150,6 +150,12 @@ module _ (t : List ℕ) (n o s : ℕ) (section : Bool) (r : Bool) (says : r ≡ 
   pub end_fits : (k : ℕ) → k < 2 ^ 38 → n < 2 ^ 32 → k + o < 2 ^ 64
   end_fits k a b = let l = ltb-true s n (and_left (ltb s n) _ within) in let q = end_behind in omega arith
 
+-- a test for a name is good where it holds
+good_by_lem : (b : Bool) (at n : ℕ) → is_good (pick b (good_name at n) None) ≡ b
+unfolding pick
+good_by_lem true at n = refl
+good_by_lem false at n = refl
+
 module _ (f : List ℕ) (h : Header) (stops t : List ℕ) (n o s : ℕ) (section r : Bool) (table : t ≡ strings f h) (said : n ≡ string_length f h) (ends : s ≡ stop_by section t stops o) (says : r ≡ may_end t n section o s) where
   pub long_good : (k : ℕ) → r ≡ true → k ≡ string_table h → good_name (k + o) (s - o) ≡ long_by f h stops section o
   unfolding pick
@@ -159,13 +165,10 @@ module _ (f : List ℕ) (h : Header) (stops t : List ℕ) (n o s : ℕ) (section
   unfolding pick
   long_bad y = rw (← table, ← said, ← ends, ← says, y)
 
-pub ruleset long_ways = (end_behind, end_fits, long_good, long_bad)
+  pub long_test : r ≡ is_good (long_by f h stops section o)
+  long_test = rw (← table, ← said, ← ends) (says ∙ sym (good_by_lem (may_end t n section o s) (string_table h + o) (s - o)))
 
--- a test for a name is good where it holds
-good_by_lem : (b : Bool) (at n : ℕ) → is_good (pick b (good_name at n) None) ≡ b
-unfolding pick
-good_by_lem true at n = refl
-good_by_lem false at n = refl
+pub ruleset long_ways = (end_behind, end_fits, long_good, long_bad)
 
 -- ---- the name in a field
 pub field_ends_lem : (t : List ℕ) (section : Bool) (s b : ℕ) {r y : Bool} → r ≡ (y && eqb b 0) → y ≡ (ltb 0 s || section) → b ≡ get_or t s 0 → r ≡ field_ends t section s

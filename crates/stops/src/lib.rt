@@ -121,6 +121,16 @@ fn may_end(t: &[u8], length: usize, section: bool, o: usize, s: usize) -> bool
         && (o < s || (section && o == s))
 }
 
+// There is a good long name at o.
+#[tactic(auto, using(crate::proofs::Laws::long_test))]
+fn long_ok(f: &[u8], h: Header, stops: &[u32], section: bool, o: usize) -> bool
+    ensures { result ≡ is_good (long_by f.now h stops.now section o) }
+{
+    let t = strings(f, h);
+    let length = object::string_length(f, h) as usize;
+    may_end(t, length, section, o, stop_by(t, section, stops, o))
+}
+
 // The long name at o.
 #[tactic(auto, using(crate::proofs::Laws::long_ways))]
 fn long_name(f: &[u8], h: Header, stops: &[u32], section: bool, o: usize) -> Option<Name>
@@ -154,6 +164,15 @@ fn field_ends(t: &[u8], section: bool, s: usize) -> bool
     (0 < s || section) && le::byte_at(t, s) == 0
 }
 
+// There is a good name in the field at `at`.
+#[tactic(auto, using(crate::proofs::Laws::field_test))]
+fn field_ok(f: &[u8], section: bool, at: usize) -> bool
+    ensures { result ≡ is_good (field_by f.now section at) }
+{
+    let t = field(f, at);
+    field_ends(t, section, chars::stop_short(t, section))
+}
+
 // The name in the field at `at`.
 #[tactic(auto, using(crate::proofs::Laws::field_ways))]
 fn field_name(f: &[u8], section: bool, at: usize) -> Option<Name>
@@ -182,11 +201,28 @@ pub fn symbol_name(f: &[u8], h: Header, stops: &[u32], j: u32) -> Option<Name>
     }
 }
 
-// Symbol j has a good name.
+// Symbol j has a good name: its check alone, which a loop over all symbols has compiled into it.
+#[tactic(auto, using(util::specs::Pick::picks), unfolding(crate::specs::Names::symbol_name_by))]
 pub fn symbol_ok(f: &[u8], h: Header, stops: &[u32], j: u32) -> bool
     ensures { result ≡ is_good (symbol_name_by f.now h stops.now j) }
 {
-    names::is_good(symbol_name(f, h, stops, j))
+    let at = object::symbol_record_at(h, j);
+    if le::u32_at(f, at) == 0 {
+        let o = le::u32_at(f, at + object::LONG_OFFSET_AT);
+        long_ok(f, h, stops, false, o as usize)
+    } else {
+        field_ok(f, false, at)
+    }
+}
+
+#[tactic(auto, unfolding(crate::specs::Names::slash_name_by))]
+fn slash_ok(f: &[u8], h: Header, stops: &[u32], d: Option<u64>) -> bool
+    ensures { result ≡ is_good (slash_name_by f.now h stops.now d) }
+{
+    match d {
+        Some(o) => long_ok(f, h, stops, true, o as usize),
+        None => false,
+    }
 }
 
 #[tactic(auto, using(util::specs::Pick::picks), unfolding(crate::specs::Names::slash_name_by))]
@@ -209,9 +245,15 @@ pub fn section_name(f: &[u8], h: Header, stops: &[u32], i: u32) -> Option<Name>
     }
 }
 
-// Section i has a good name.
+// Section i has a good name: its check alone.
+#[tactic(auto, using(util::specs::Pick::picks), unfolding(crate::specs::Names::section_name_by))]
 pub fn section_ok(f: &[u8], h: Header, stops: &[u32], i: u32) -> bool
     ensures { result ≡ is_good (section_name_by f.now h stops.now i) }
 {
-    names::is_good(section_name(f, h, stops, i))
+    let at = object::section_header_at(h, i);
+    if le::byte_at(f, at) == names::SLASH {
+        slash_ok(f, h, stops, names::slash_offset(f, h, i))
+    } else {
+        field_ok(f, true, at)
+    }
 }

@@ -47,7 +47,7 @@ unfoldable pub ascii_there : Bool → List ℕ → List ℕ → ℕ → ℕ → 
 ascii_there reached image marks o minimum = pick reached (ascii_of image marks o minimum) (Err (pick (storage_ok (length image) (length marks)) NotMapped Storage))
 
 -- the bytes of an answer: that part of the image, or none
-unfoldable pub text_of : List ℕ → Ascii → List ℕ
+unfoldable pub text_of : {E : Type 0} → List ℕ → Result (Option Text) E → List ℕ
 text_of image (Ok (Some t)) = part image t.start.0 t.length
 text_of image (Ok None) = []
 text_of image (Err r) = []

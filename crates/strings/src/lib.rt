@@ -63,7 +63,7 @@ pub fn read_ascii<P: Place>(
 
 // The bytes of the answer: that part of the image, or none.
 #[tactic(auto, unfolding(crate::specs::Ascii::text_of))]
-pub fn ascii_text(image: &[u8], answer: Result<Option<Text>, Refusal>) -> &[u8]
+pub fn ascii_text<E: Copy>(image: &[u8], answer: Result<Option<Text>, E>) -> &[u8]
     ensures { result.now ≡ text_of image.now answer }
 {
     match answer {

@@ -180,7 +180,7 @@ fn into(line: &[u8], base: u64, image: &[u8], marks: &[u8], buffer: &mut [u8]) {
     let address = VA(cases::number_at(line, 1));
     let n = buffer.len().min(cases::number_at(line, 2) as usize);
     match aspace::absolute::read_into(image, marks, VA(base), address, &mut buffer[..n]) {
-        Err(r) => cases::refused(r),
+        Err(r) => cases::refused(r.number()),
         Ok(()) => say::crc(&buffer[..n]),
     }
 }

@@ -12,7 +12,7 @@ pub(crate) fn counted_by(line: &[u8], answer: Result<Counts, Refusal>) {
     cases::text(line);
     match answer {
         Ok(c) => counts(c),
-        Err(r) => cases::refused(r),
+        Err(r) => cases::refused(r.number()),
     }
     cases::end();
 }
@@ -77,7 +77,7 @@ pub(crate) fn laid(image: &[u8], pages: u64) {
 pub(crate) fn patched(line: &[u8], answer: Result<Progress, Refusal>, image: &[u8], pages: u64) {
     cases::text(line);
     match answer {
-        Err(r) => cases::refused(r),
+        Err(r) => cases::refused(r.number()),
         Ok(p) => {
             cases::part(b" position ", p.position);
             cases::part(b" done ", u64::from(p.done));
@@ -89,7 +89,7 @@ pub(crate) fn patched(line: &[u8], answer: Result<Progress, Refusal>, image: &[u
 
 pub(crate) fn routine(answer: Result<Routine, Refusal>) {
     match answer {
-        Err(r) => cases::refused(r),
+        Err(r) => cases::refused(r.number()),
         Ok(a) => {
             cases::part(b" symbol ", a.symbol);
             cases::part(b" distance ", a.distance);

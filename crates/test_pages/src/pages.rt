@@ -14,14 +14,15 @@ pub(crate) fn pagemap(line: &[u8], image: &mut [u8], marks: &mut [u8], given: &[
         let marks_before = cases::crc32(marks);
         let n = cases::number_at(line, 2);
         let at = RVA(cases::number_at(line, 3));
-        cases::answer(write(
+        let answer = write(
             question,
             n,
             at,
             image,
             marks,
             le::part(given, 0, n as usize),
-        ));
+        );
+        cases::answer(answer.map_err(|r| r.number()));
         stands(before, marks_before, image, marks);
     } else {
         read(question, line, image, marks);
@@ -70,7 +71,7 @@ fn read(question: u8, line: &[u8], image: &[u8], marks: &[u8]) {
             image,
             marks,
         ),
-        8 => cases::number(pagemap::get(image, marks, RVA(first))),
+        8 => cases::number(pagemap::get(image, marks, RVA(first)).map_err(|r| r.number())),
         9 => cases::yes(pagemap::probe(image, marks, RVA(first))),
         10 => cases::decimal(marks::page_count(marks)),
         11 => cases::yes(pagemap::storage_ok(first, second)),
@@ -93,7 +94,7 @@ fn buffer(question: u8, room: u64, start: u64, end: u64, image: &[u8], marks: &[
 }
 
 fn filled(question: u8, start: RVA, end: RVA, image: &[u8], marks: &[u8], buf: &mut [u8]) {
-    cases::answer(into(question, start, end, image, marks, buf));
+    cases::answer(into(question, start, end, image, marks, buf).map_err(|r| r.number()));
     shown(buf);
 }
 

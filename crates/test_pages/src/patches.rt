@@ -41,6 +41,6 @@ fn told(answer: Result<Progress, Refusal>) {
             cases::decimal(p.position);
             cases::yes(p.done);
         }
-        Err(r) => cases::refused(r),
+        Err(r) => cases::refused(r.number()),
     }
 }

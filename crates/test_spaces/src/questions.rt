@@ -40,7 +40,7 @@ impl<'a> Question<'a> {
     pub(crate) fn ask<P: Place>(self, at: P, image: &mut [u8], marks: &[u8]) {
         if self.function < 6 {
             let before = cases::crc32(image);
-            cases::answer(self.write(at, image, marks));
+            cases::answer(self.write(at, image, marks).map_err(|r| r.number()));
             cases::kept(before, image);
         } else {
             self.read(at, image, marks);
@@ -72,8 +72,8 @@ impl<'a> Question<'a> {
                 image,
                 strings::read_ascii(image, marks, at, cases::number_at(self.line, 2)),
             ),
-            9..=14 => cases::number(self.read_number(at, image, marks)),
-            _ => cases::text(b" refused 0"),
+            9..=14 => cases::number(self.read_number(at, image, marks).map_err(|r| r.number())),
+            _ => cases::refused(0),
         }
     }
 
@@ -82,12 +82,13 @@ impl<'a> Question<'a> {
         let mut bytes = [0xEEu8; 4];
         let size = cases::least(cases::number_at(self.line, 2), bytes.len());
         let buf = &mut bytes[..size];
-        cases::answer(if self.function == 6 {
+        let answer = if self.function == 6 {
             aspace::read_into(image, marks, at, buf)
         } else {
             let n = cases::number_at(self.line, self.behind) as usize;
             aspace::read_bytes(image, marks, at, n, buf)
-        });
+        };
+        cases::answer(answer.map_err(|r| r.number()));
         cases::bytes(buf);
     }
 
@@ -111,7 +112,7 @@ fn text(image: &[u8], answer: Result<Option<Text>, Refusal>) {
             cases::decimal(found.length);
         }
         Ok(None) => cases::text(b" too short"),
-        Err(refusal) => cases::refused(refusal),
+        Err(refusal) => cases::refused(refusal.number()),
     }
     cases::bytes(strings::ascii_text(image, answer));
 }

@@ -1,7 +1,8 @@
-// Rounding up, from util.rs, and what every layer shares: a choice by a test, recursion over the numbers below n, the fold over relocations.
+// Rounding up, from util.rs, and what every layer shares: two tests as one, a choice by a test, recursion over the numbers below n, the fold over
+// relocations.
 #![tactic(auto)]
 
-ghost use Rattle.std.specs.Prelude.{◌≡◌, ◌+◌, ◌%◌, ◌^◌, max, nat_le};
+ghost use Rattle.std.specs.Prelude.{◌≡◌, ◌+◌, ◌%◌, ◌^◌, ◌&&◌, ◌||◌, max, nat_le};
 ghost use Rattle.util.specs.Align.{round_up};
 
 // `i` rounded up to a multiple of `b`; a `b` of 0 or 1 rounds nothing. Past 64 bits the answer wraps, as the Rust's release build does; no caller comes near that.
@@ -28,4 +29,18 @@ pub fn most(a: u64, b: u64) -> u64
     ensures { result ≡ max a b }
 {
     a.max(b)
+}
+
+// Both hold.
+pub fn both(a: bool, b: bool) -> bool
+    ensures { result ≡ (a && b) }
+{
+    a && b
+}
+
+// One of them holds.
+pub fn either(a: bool, b: bool) -> bool
+    ensures { result ≡ (a || b) }
+{
+    a || b
 }
